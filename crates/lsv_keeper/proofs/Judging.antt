@@ -17,9 +17,13 @@ use Rattle.lsv_session.specs.declared.connection.ConnState.{ConnState}
 use Rattle.lsv_session.specs.declared.job.Body.{Body}
 use Rattle.lsv_session.specs.declared.job.Body.TheVariants as body
 use Rattle.lsv_session.specs.declared.job.Job.{Job}
+use Rattle.lsv_msg.specs.declared.fault.MsgFault.{MsgFault}
+use Rattle.lsv_msg.specs.declared.fault.MsgFault.TheVariants as message_faults
+use Rattle.lsv_session.specs.declared.job.Fault.{Fault}
+use Rattle.lsv_session.specs.declared.job.Fault.TheVariants as faults
 use Rattle.lsv_machine.specs.Answers.{refusal}
 use Rattle.lsv_machine.specs.History.{is_look}
-use Rattle.lsv_machine.specs.Judgement.{allows, judged, with_keys}
+use Rattle.lsv_machine.specs.Judgement.{allows, fault_refusal, judged, malformed, with_keys}
 use Rattle.lsv_machine.specs.Machine.{Machine, Settings, is_dead, is_running}
 use Rattle.lsv_machine.specs.Work as work
 use Rattle.lsv_machine.specs.Work.{alive, answered, plain}
@@ -99,3 +103,21 @@ pub message_refused : (set : Settings) (now : TimeSpec) (job : Job) (message : C
 message_refused set now job message why m k conn is living e n =
     alive_is set now job m n (ap (λ (j : ConnId). is_dead (m.states j)) conn ∙ living) ∙ ap (λ (j : ConnId). alive set now j job.body n m) conn ∙ ap (λ (b : Body). alive set now k b n m) is
     ∙ ap (λ (w : Result Request Refusal). answered set now k (m.states k) w n m) e
+
+-- bytes that go on as no message are refused
+pub bytes_refused : (set : Settings) (now : TimeSpec) (job : Job) (fault : Fault) (m : Machine) (k : ConnId) → job.conn ≡ k → job.body ≡ body.Bad fault → is_dead (m.states k) ≡ false
+    → (n : ℕ) → plain set now job n m ≡ work.refused k (fault_refusal fault) m
+bytes_refused set now job fault m k conn is living n =
+    alive_is set now job m n (ap (λ (j : ConnId). is_dead (m.states j)) conn ∙ living) ∙ ap (λ (j : ConnId). alive set now j job.body n m) conn ∙ ap (λ (b : Body). alive set now k b n m) is
+
+malformed_fair : (fault : MsgFault) → IsNoLook (malformed fault)
+malformed_fair message_faults.NoMem k = refl
+malformed_fair (message_faults.Wire f) k = refl
+malformed_fair message_faults.Untyped k = refl
+malformed_fair (message_faults.Twice n) k = refl
+malformed_fair (message_faults.WrongType n) k = refl
+
+pub fault_fair : (fault : Fault) → IsNoLook (fault_refusal fault)
+fault_fair (faults.Malformed f) k = malformed_fair f k
+fault_fair (faults.TooLarge n) k = refl
+fault_fair faults.NoMem k = refl

@@ -16,3 +16,5 @@ pub mod Accepting
 pub mod Syncs
 pub mod Syncing
 pub mod Causes
+pub mod Jobs
+pub mod Frames

@@ -1,6 +1,6 @@
 //! Accepts: an event alone, or a log that is opened.
 
-ghost use Rattle.std.specs.Prelude.{◌≡◌, ◌≤◌, ℕ, false, [], None, Ok, IfErr, IfOk, IsSome, OnErr, OnOk, vec_capacity, ◌∷◌, IsErrOf};
+ghost use Rattle.std.specs.Prelude.{◌≡◌, ◌≤◌, false, [], None, Ok, IfErr, IfOk, IsSome, OnErr, OnOk, vec_capacity, ◌∷◌, IsErrOf};
 ghost use Rattle.lsv_base.specs.LogNo.{digits_of};
 ghost use Rattle.lsv_base.specs.Time.{nanos_of};
 ghost use Rattle.lsv_mask.specs.Masking.{seen};
@@ -13,13 +13,14 @@ ghost use Rattle.lsv_machine.specs.Judgement.{judged};
 ghost use Rattle.lsv_machine.specs.Machine.{Machine, is_running};
 ghost use Rattle.lsv_machine.specs.Work.{draws, last_number};
 ghost use Rattle.lsv_keeper.specs.Accepting.{Begun, DrawsNone, Stopped, accept_of, create_refusal, draw_refusal};
+ghost use Rattle.lsv_keeper.specs.Frames.{CallKeeps, DrawKeeps};
 ghost use Rattle.lsv_keeper.specs.Logs.{spare_logs};
 ghost use Rattle.lsv_keeper.specs.Represents.{Represents};
-ghost use Rattle.lsv_keeper.specs.Rows.{Beside, IsTold, RowGives};
-ghost use Rattle.lsv_keeper.specs.Value.{IsReserved, Keeps, room, sessions_of, settings_of};
+ghost use Rattle.lsv_keeper.specs.Rows.{IsTold, RowGives};
+ghost use Rattle.lsv_keeper.specs.Value.{IsReserved, room, sessions_of, settings_of};
 ghost use Rattle.lsv_keeper.specs.Views.{view_of};
-ghost use Rattle.lsv_keeper.specs.Syncing.{IsPast, NoLog, NoLogUsed, Syncs};
-ghost use Rattle.lsv_keeper.specs.Causes.{Does, TellsFault};
+ghost use Rattle.lsv_keeper.specs.Syncing.{IsPast};
+ghost use Rattle.lsv_keeper.specs.Causes.{TellsFault};
 
 use crate::Keeper;
 use crate::logs::OpenLog;
@@ -100,12 +101,10 @@ impl<F: LineWriter, H: Search> Keeper<F, H> {
         requires asked { (message : ClientMessage) × (judged state message ≡ Ok (requests.Accept accept)) }
         requires stands { D.tells → (m : Machine) × Represents (view_of self.old) (D.view disk.old) m }
         requires room { 1 ≤ room (view_of self.old) }
-        ensures keeps { Keeps (view_of self.old) (view_of self.new) }
+        ensures frame { CallKeeps D.tells (conn ∷ []) (Unit {0}) (TellsFault result) (view_of self.old) (view_of self.new) (D.view disk.old) (D.view disk.new) }
         ensures told { IsTold result }
         ensures row { D.tells → (m : Machine) (job : Job) → Represents (view_of self.old) (D.view disk.old) m → job.conn ≡ conn → AsksFor (m.states conn) job.body (requests.Accept accept)
             → RowGives (view_of self.old) now job result m (view_of self.new) (D.view disk.old) (D.view disk.new) }
-        ensures syncs { D.tells → (m : Machine) → Represents (view_of self.old) (D.view disk.old) m → Syncs NoLog (view_of self.old) (view_of self.new) (D.view disk.old) (D.view disk.new) }
-        ensures does { Does (conn ∷ []) (Unit {0}) (TellsFault result) (view_of self.old) (view_of self.new) (D.view disk.old) (D.view disk.new) }
     {
         let Accept {
             head,
@@ -133,17 +132,15 @@ impl<F: LineWriter, H: Search> Keeper<F, H> {
         requires free { is_running ((sessions_of (view_of self.old)).states conn) ≡ false }
         requires stands { D.tells → (m : Machine) × Represents (view_of self.old) (D.view disk.old) m }
         requires room { 1 ≤ room (view_of self.old) }
-        ensures keeps { Keeps (view_of self.old) (view_of self.new) }
+        ensures frame { CallKeeps D.tells (conn ∷ []) (Unit {0}) (TellsFault result) (view_of self.old) (view_of self.new) (D.view disk.old) (D.view disk.new) }
         ensures told { IsTold result }
         ensures row { D.tells → (m : Machine) (job : Job) → Represents (view_of self.old) (D.view disk.old) m → job.conn ≡ conn → AsksFor (m.states conn) job.body (requests.Accept (accept_of head))
             → RowGives (view_of self.old) now job result m (view_of self.new) (D.view disk.old) (D.view disk.new) }
-        ensures syncs { D.tells → (m : Machine) → Represents (view_of self.old) (D.view disk.old) m → Syncs NoLog (view_of self.old) (view_of self.new) (D.view disk.old) (D.view disk.new) }
-        ensures does { Does (conn ∷ []) (Unit {0}) (TellsFault result) (view_of self.old) (view_of self.new) (D.view disk.old) (D.view disk.new) }
     {
         match self.open_log(disk, now, conn, head) {
             Ok(opened) => Told::Log(opened.number, opened.id),
             Err(why) => {
-                self.leave(disk, conn, ConnState::Dead);
+                self.enter_state(disk, conn, ConnState::Dead);
                 Told::Refused(why)
             }
         }
@@ -163,15 +160,13 @@ impl<F: LineWriter, H: Search> Keeper<F, H> {
         requires free { is_running ((sessions_of (view_of self.old)).states conn) ≡ false }
         requires stands { D.tells → (m : Machine) × Represents (view_of self.old) (D.view disk.old) m }
         requires room { 1 ≤ room (view_of self.old) }
-        ensures keeps { Keeps (view_of self.old) (view_of self.new) }
+        ensures frame { CallKeeps D.tells (conn ∷ []) (Unit {0}) (IsErrOf result Refusal.DeviceFault) (view_of self.old) (view_of self.new) (D.view disk.old) (D.view disk.new) }
         ensures room { OnErr result (room (view_of self.new) ≡ room (view_of self.old)) }
         ensures id { IfOk result (λ opened. opened.id ≡ digits_of opened.number) }
         ensures begun { D.tells → IfOk result (λ opened. (m : Machine) → Represents (view_of self.old) (D.view disk.old) m
             → Begun (view_of self.old) now conn opened.number head m (view_of self.new) (D.view disk.old) (D.view disk.new)) }
         ensures stopped { D.tells → IfErr result (λ why. (m : Machine) → Represents (view_of self.old) (D.view disk.old) m
             → Stopped (view_of self.old) now conn (m.states conn) head m why (view_of self.new) (D.view disk.old) (D.view disk.new)) }
-        ensures syncs { D.tells → (m : Machine) → Represents (view_of self.old) (D.view disk.old) m → Syncs NoLog (view_of self.old) (view_of self.new) (D.view disk.old) (D.view disk.new) }
-        ensures does { Does (conn ∷ []) (Unit {0}) (IsErrOf result Refusal.DeviceFault) (view_of self.old) (view_of self.new) (D.view disk.old) (D.view disk.new) }
     {
         let Ok(prepared) = self.prepare() else {
             return Err(Refusal::OutOfMemory);
@@ -217,17 +212,13 @@ impl<F: LineWriter, H: Search> Keeper<F, H> {
     /// Draws the next number. Nothing but the numbers is otherwise.
     fn draw<D: Disk>(&mut self, disk: &mut D) -> Result<LogNo, Refusal>
         requires stands { D.tells → (m : Machine) × Represents (view_of self.old) (D.view disk.old) m }
-        ensures same { view_of self.new ≡ record (view_of self.old) { numbers = (view_of self.new).numbers } }
+        ensures frame { DrawKeeps D.tells (IsErrOf result Refusal.DeviceFault) (view_of self.old) (view_of self.new) (D.view disk.old) (D.view disk.new) }
         ensures within { IfOk result (λ n. n ≤ last_number) }
         ensures drawn { D.tells → IfOk result (λ n. (m : Machine) → Represents (view_of self.old) (D.view disk.old) m
             → MayDraw (settings_of (view_of self.old)) m n × Represents (view_of self.new) (D.view disk.new) (draws n m)) }
         ensures none { D.tells → IfErr result (λ why. (m : Machine) → Represents (view_of self.old) (D.view disk.old) m
             → DrawsNone (view_of self.old) m why (view_of self.new) (D.view disk.old) (D.view disk.new)) }
-        ensures beside { D.tells → (m : Machine) → Represents (view_of self.old) (D.view disk.old) m → Beside (view_of self.old).lane (view_of self.old).lanes None (D.view disk.old) (D.view disk.new) }
-        ensures syncs { D.tells → NoLogUsed (D.view disk.old) (D.view disk.new) }
-        ensures past { (n : ℕ) → IsPast (view_of self.old).numbers n → IsPast (view_of self.new).numbers n }
         ensures fresh { D.tells → IfOk result (λ n. (m : Machine) → Represents (view_of self.old) (D.view disk.old) m → IsPast (view_of self.old).numbers n → ⊥) }
-        ensures does { Does [] (Unit {0}) (IsErrOf result Refusal.DeviceFault) (view_of self.old) (view_of self.new) (D.view disk.old) (D.view disk.new) }
     {
         match self.numbers.draw(disk) {
             Ok(number) => Ok(number),

@@ -6,13 +6,14 @@ ghost use Rattle.lsv_event.specs.Lines.{line_of};
 ghost use Rattle.lsv_eventlog.specs.Value.{is_broken};
 ghost use Rattle.lsv_machine.specs.Machine.{Machine};
 ghost use Rattle.lsv_machine.specs.Work.{adds_line, line_fits};
+ghost use Rattle.lsv_keeper.specs.Frames.{LineKeeps};
 ghost use Rattle.lsv_keeper.specs.Represents.{Represents};
 ghost use Rattle.lsv_keeper.specs.Views.{view_of};
 ghost use Rattle.lsv_keeper.specs.Rows.{Beside, LineFault};
 ghost use Rattle.lsv_keeper.specs.Accepting.{failed_before, line_refusal};
-ghost use Rattle.lsv_keeper.specs.Value.{Keeps, KeeperView, SameSessions};
+ghost use Rattle.lsv_keeper.specs.Value.{KeeperView};
 ghost use Rattle.lsv_keeper.specs.Syncing.{NoLogUsed};
-ghost use Rattle.lsv_keeper.specs.Causes.{Does, LinesDo};
+ghost use Rattle.lsv_keeper.specs.Causes.{LinesDo};
 
 use crate::Keeper;
 use lsv_bundle::BundleFault;
@@ -36,16 +37,12 @@ impl<F: LineWriter, H: Search> Keeper<F, H> {
         event: &Event,
     ) -> Result<(), Refusal>
         requires timed { IsTimed event.now }
-        ensures keeps { Keeps (view_of self.old) (view_of self.new) }
-        ensures same { SameSessions (view_of self.old) (view_of self.new) }
+        ensures frame { LineKeeps D.tells (conn ∷ []) (Unit {0}) (IsErrOf result Refusal.DeviceFault) (view_of self.old) (view_of self.new) (D.view disk.old) (D.view disk.new) }
         ensures none { OnErr result ((view_of self.new).noting ≡ (view_of self.old).noting) }
         ensures added { D.tells → OnOk result ((m : Machine) → Represents (view_of self.old) (D.view disk.old) m →
             (line_fits (line_of (view_of self.old).kind event.now) m ≡ true) × Represents (view_of self.new) (D.view disk.new) (adds_line conn (line_of (view_of self.old).kind event.now) m)) }
         ensures refused { D.tells → IfErr result (λ why. (m : Machine) → Represents (view_of self.old) (D.view disk.old) m →
             LineFault (view_of self.old).lane (line_of (view_of self.old).kind event.now) m why (D.view disk.old) (D.view disk.new) × Represents (view_of self.new) (D.view disk.new) m) }
-        ensures beside { D.tells → (m : Machine) → Represents (view_of self.old) (D.view disk.old) m → Beside (view_of self.old).lane (view_of self.old).lanes None (D.view disk.old) (D.view disk.new) }
-        ensures syncs { D.tells → NoLogUsed (D.view disk.old) (D.view disk.new) }
-        ensures does { Does (conn ∷ []) (Unit {0}) (IsErrOf result Refusal.DeviceFault) (view_of self.old) (view_of self.new) (D.view disk.old) (D.view disk.new) }
     {
         let Ok(line) = self.formatter.write(self.alloc, event) else {
             return Err(Refusal::OutOfMemory);

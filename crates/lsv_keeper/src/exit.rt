@@ -9,11 +9,13 @@ ghost use Rattle.lsv_machine.specs.Failures.{AsksFor};
 ghost use Rattle.lsv_machine.specs.Judgement.{judged};
 ghost use Rattle.lsv_machine.specs.Machine.{Machine, log_of};
 ghost use Rattle.lsv_keeper.specs.Exits.{LineAdded, LineRefused};
+ghost use Rattle.lsv_keeper.specs.Frames.{CallKeeps, LineKeeps};
+ghost use Rattle.lsv_keeper.specs.Jobs.{DoesRequest};
 ghost use Rattle.lsv_keeper.specs.Represents.{Represents};
-ghost use Rattle.lsv_keeper.specs.Rows.{Beside, IsTold, RowGives};
-ghost use Rattle.lsv_keeper.specs.Value.{Keeps, SameSessions, event_line, room, sessions_of};
+ghost use Rattle.lsv_keeper.specs.Rows.{IsTold, RowGives};
+ghost use Rattle.lsv_keeper.specs.Value.{Keeps, event_line, room, sessions_of};
 ghost use Rattle.lsv_keeper.specs.Views.{view_of};
-ghost use Rattle.lsv_keeper.specs.Syncing.{NoLog, NoLogUsed, Syncs};
+ghost use Rattle.lsv_keeper.specs.Syncing.{NoLog, Syncs};
 ghost use Rattle.lsv_keeper.specs.Causes.{Does, TellsFault};
 
 use crate::Keeper;
@@ -46,12 +48,7 @@ impl<F: LineWriter, H: Search> Keeper<F, H> {
         requires state { state ≡ (sessions_of (view_of self.old)).states conn }
         requires asked { (message : ClientMessage) × (judged state message ≡ Ok (request.Exit exit)) }
         requires timed { IsSome (nanos_of now) }
-        ensures keeps { Keeps (view_of self.old) (view_of self.new) }
-        ensures told { IsTold result }
-        ensures row { D.tells → (m : Machine) (job : Job) → Represents (view_of self.old) (D.view disk.old) m → job.conn ≡ conn → AsksFor (m.states conn) job.body (request.Exit exit)
-            → RowGives (view_of self.old) now job result m (view_of self.new) (D.view disk.old) (D.view disk.new) }
-        ensures syncs { D.tells → (m : Machine) → Represents (view_of self.old) (D.view disk.old) m → Syncs NoLog (view_of self.old) (view_of self.new) (D.view disk.old) (D.view disk.new) }
-        ensures does { Does (conn ∷ []) ((view_of self.old).log_exit ≡ true) (TellsFault result) (view_of self.old) (view_of self.new) (D.view disk.old) (D.view disk.new) }
+        ensures done { DoesRequest D.tells now conn (request.Exit exit) result (view_of self.old) (view_of self.new) (D.view disk.old) (D.view disk.new) }
     {
         match log_of(state) {
             Some(log) => self.end_log(disk, now, conn, log, exit),
@@ -71,14 +68,12 @@ impl<F: LineWriter, H: Search> Keeper<F, H> {
         requires room { 1 ≤ room (view_of self.old) }
         requires timed { IsSome (nanos_of now) }
         requires run { IsSome (nanos_of exit.run) }
-        ensures keeps { Keeps (view_of self.old) (view_of self.new) }
+        ensures frame { CallKeeps D.tells (conn ∷ []) ((view_of self.old).log_exit ≡ true) (TellsFault result) (view_of self.old) (view_of self.new) (D.view disk.old) (D.view disk.new) }
         ensures told { IsTold result }
         ensures row { D.tells → (m : Machine) (job : Job) → Represents (view_of self.old) (D.view disk.old) m → job.conn ≡ conn → log_of (m.states conn) ≡ None → AsksFor (m.states conn) job.body (request.Exit exit)
             → RowGives (view_of self.old) now job result m (view_of self.new) (D.view disk.old) (D.view disk.new) }
-        ensures syncs { D.tells → (m : Machine) → Represents (view_of self.old) (D.view disk.old) m → Syncs NoLog (view_of self.old) (view_of self.new) (D.view disk.old) (D.view disk.new) }
-        ensures does { Does (conn ∷ []) ((view_of self.old).log_exit ≡ true) (TellsFault result) (view_of self.old) (view_of self.new) (D.view disk.old) (D.view disk.new) }
     {
-        self.leave(disk, conn, ConnState::Dead);
+        self.enter_state(disk, conn, ConnState::Dead);
         match self.exit_line(disk, now, conn, None, exit) {
             Ok(()) => Told::Shut,
             Err(why) => Told::Refused(why),
@@ -144,15 +139,11 @@ impl<F: LineWriter, H: Search> Keeper<F, H> {
     ) -> Result<(), Refusal>
         requires timed { IsSome (nanos_of now) }
         requires run { IsSome (nanos_of exit.run) }
-        ensures keeps { Keeps (view_of self.old) (view_of self.new) }
-        ensures same { SameSessions (view_of self.old) (view_of self.new) }
+        ensures frame { LineKeeps D.tells (conn ∷ []) ((view_of self.old).log_exit ≡ true) (IsErrOf result Refusal.DeviceFault) (view_of self.old) (view_of self.new) (D.view disk.old) (D.view disk.new) }
         ensures added { D.tells → OnOk result ((m : Machine) → Represents (view_of self.old) (D.view disk.old) m
             → LineAdded conn (event_line (view_of self.old).kind now conn (request.Exit exit) log) m (view_of self.old) (view_of self.new) (D.view disk.new)) }
         ensures refused { D.tells → IfErr result (λ why. (m : Machine) → Represents (view_of self.old) (D.view disk.old) m
             → LineRefused (event_line (view_of self.old).kind now conn (request.Exit exit) log) why m (view_of self.old) (view_of self.new) (D.view disk.old) (D.view disk.new)) }
-        ensures beside { D.tells → (m : Machine) → Represents (view_of self.old) (D.view disk.old) m → Beside (view_of self.old).lane (view_of self.old).lanes None (D.view disk.old) (D.view disk.new) }
-        ensures syncs { D.tells → NoLogUsed (D.view disk.old) (D.view disk.new) }
-        ensures does { Does (conn ∷ []) ((view_of self.old).log_exit ≡ true) (IsErrOf result Refusal.DeviceFault) (view_of self.old) (view_of self.new) (D.view disk.old) (D.view disk.new) }
     {
         if !self.log_exit {
             return Ok(());

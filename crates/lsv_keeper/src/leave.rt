@@ -1,25 +1,26 @@
 //! Connections that come to their end: refused, gone, or shut; and what they wrote.
 
-ghost use Rattle.std.specs.Prelude.{◌≡◌, ◌≤◌, ◌+◌, ℕ, true, false, if◌then◌else◌, [], length, Some, None};
+ghost use Rattle.std.specs.Prelude.{◌≡◌, ◌≤◌, ◌+◌, ℕ, true, false, [], Some, None};
 ghost use Rattle.lsv_base.specs.declared.time.TimeSpec.{TimeSpec};
 ghost use Rattle.lsv_session.specs.declared.connection.ConnState.{ConnState};
 ghost use Rattle.lsv_session.specs.declared.job.Body.{Body};
 ghost use Rattle.lsv_session.specs.declared.job.Job.{Job};
 ghost use Rattle.lsv_machine.specs.Machine.{Machine, is_dead};
 ghost use Rattle.lsv_machine.specs.Work.{plain, refused};
+ghost use Rattle.lsv_keeper.specs.Frames.{CallKeeps, EntersState};
 ghost use Rattle.lsv_keeper.specs.Represents.{Represents};
 ghost use Rattle.lsv_keeper.specs.Views.{view_of};
 ghost use Rattle.lsv_keeper.specs.Rows.{Left, RowGives};
 ghost use Rattle.lsv_session.specs.Table.{room_for};
 ghost use Rattle.lsv_session.specs.declared.job.Body.TheVariants as bodies;
-ghost use Rattle.lsv_machine.specs.Machine.{log_of, same};
+ghost use Rattle.lsv_machine.specs.Machine.{log_of};
 ghost use Rattle.lsv_machine.specs.Answers.{refusal};
 ghost use Rattle.lsv_machine.specs.History.{is_look};
 ghost use Rattle.lsv_keeper.specs.Leaving.{Departs, TakenOut};
-ghost use Rattle.lsv_keeper.specs.Value.{KeeperView, Keeps, owed, room, sessions_of, settings_of};
+ghost use Rattle.lsv_keeper.specs.Value.{KeeperView, Keeps, room, sessions_of, settings_of};
 ghost use Rattle.lsv_keeper.specs.declared.told.Told.{Told};
 ghost use Rattle.lsv_keeper.specs.Syncing.{NoLog, Syncs};
-ghost use Rattle.lsv_keeper.specs.Causes.{Does, LetsGo};
+ghost use Rattle.lsv_keeper.specs.Causes.{LetsGo};
 
 use crate::Keeper;
 use crate::logs::OpenLog;
@@ -35,18 +36,13 @@ use lsv_session::{Body, ConnId, ConnState};
 impl<F: LineWriter, H: Search> Keeper<F, H> {
     /// The connection comes into a state in which it writes no log: the one that it wrote is flushed, without a commit
     /// point, and let go.
-    pub(crate) fn leave<D: Disk>(&mut self, disk: &mut D, conn: ConnId, state: ConnState)
+    pub(crate) fn enter_state<D: Disk>(&mut self, disk: &mut D, conn: ConnId, state: ConnState)
         requires stands { D.tells → (m : Machine) × Represents (view_of self.old) (D.view disk.old) m }
         requires writes_none { log_of state ≡ None }
         requires room { room_for ((sessions_of (view_of self.old)).states conn) state ≤ room (view_of self.old) }
-        ensures keeps { Keeps (view_of self.old) (view_of self.new) }
-        ensures sessions { (sessions_of (view_of self.new)).states ≡ (λ k. if same k conn then state else (sessions_of (view_of self.old)).states k) }
-        ensures shrinks { owed (view_of self.new) ≤ owed (view_of self.old) }
-        ensures noting { (view_of self.new).noting ≡ (view_of self.old).noting }
-        ensures fewer { length (view_of self.new).waiting ≤ length (view_of self.old).waiting }
+        ensures frame { CallKeeps D.tells [] ⊥ ⊥ (view_of self.old) (view_of self.new) (D.view disk.old) (D.view disk.new) }
+        ensures enters { EntersState conn state (view_of self.old) (view_of self.new) }
         ensures left { D.tells → (m : Machine) → Represents (view_of self.old) (D.view disk.old) m → Left conn state (view_of self.old) m (view_of self.new) (D.view disk.old) (D.view disk.new) }
-        ensures syncs { D.tells → (m : Machine) → Represents (view_of self.old) (D.view disk.old) m → Syncs NoLog (view_of self.old) (view_of self.new) (D.view disk.old) (D.view disk.new) }
-        ensures does { Does [] ⊥ ⊥ (view_of self.old) (view_of self.new) (D.view disk.old) (D.view disk.new) }
     {
         match log_of(self.table.state(conn)) {
             Some(log) => match self.logs.take(log) {
@@ -73,10 +69,7 @@ impl<F: LineWriter, H: Search> Keeper<F, H> {
         requires writes_none { log_of state ≡ None }
         requires room { room_for ((sessions_of (view_of self.old)).states conn) state ≤ room (view_of self.old) }
         ensures keeps { Keeps (view_of self.old) (view_of self.new) }
-        ensures sessions { (sessions_of (view_of self.new)).states ≡ (λ k. if same k conn then state else (sessions_of (view_of self.old)).states k) }
-        ensures shrinks { owed (view_of self.new) ≤ owed (view_of self.old) }
-        ensures noting { (view_of self.new).noting ≡ (view_of self.old).noting }
-        ensures fewer { length (view_of self.new).waiting ≤ length (view_of self.old).waiting }
+        ensures enters { EntersState conn state (view_of self.old) (view_of self.new) }
         ensures left { D.tells → (before : KeeperView) (m : Machine) → TakenOut log its before (view_of self.old) → Represents before (D.view disk.old) m → log_of (m.states conn) ≡ Some log
             → Left conn state before m (view_of self.new) (D.view disk.old) (D.view disk.new) }
         ensures syncs { D.tells → (before : KeeperView) (m : Machine) → TakenOut log its before (view_of self.old) → Represents before (D.view disk.old) m → log_of (m.states conn) ≡ Some log
@@ -104,46 +97,40 @@ impl<F: LineWriter, H: Search> Keeper<F, H> {
     pub(crate) fn refuse<D: Disk>(&mut self, disk: &mut D, conn: ConnId, why: Refusal) -> Told
         requires stands { D.tells → (m : Machine) × Represents (view_of self.old) (D.view disk.old) m }
         requires room { 1 ≤ room (view_of self.old) }
-        ensures keeps { Keeps (view_of self.old) (view_of self.new) }
+        ensures frame { CallKeeps D.tells [] ⊥ ⊥ (view_of self.old) (view_of self.new) (D.view disk.old) (D.view disk.new) }
         ensures told { result ≡ Told.Refused why }
         ensures row { D.tells → (m : Machine) (job : Job) (now : TimeSpec) → Represents (view_of self.old) (D.view disk.old) m → job.conn ≡ conn → is_dead (m.states conn) ≡ false
             → is_look (refusal conn why) ≡ false → ((n : ℕ) → plain (settings_of (view_of self.old)) now job n m ≡ refused conn why m)
             → RowGives (view_of self.old) now job result m (view_of self.new) (D.view disk.old) (D.view disk.new) }
-        ensures syncs { D.tells → (m : Machine) → Represents (view_of self.old) (D.view disk.old) m → Syncs NoLog (view_of self.old) (view_of self.new) (D.view disk.old) (D.view disk.new) }
-        ensures does { Does [] ⊥ ⊥ (view_of self.old) (view_of self.new) (D.view disk.old) (D.view disk.new) }
     {
-        self.leave(disk, conn, ConnState::Dead);
+        self.enter_state(disk, conn, ConnState::Dead);
         Told::Refused(why)
     }
 
     /// The connection went.
     pub(crate) fn farewell<D: Disk>(&mut self, disk: &mut D, conn: ConnId) -> Told
         requires stands { D.tells → (m : Machine) × Represents (view_of self.old) (D.view disk.old) m }
-        ensures keeps { Keeps (view_of self.old) (view_of self.new) }
+        ensures frame { CallKeeps D.tells [] ⊥ ⊥ (view_of self.old) (view_of self.new) (D.view disk.old) (D.view disk.new) }
         ensures told { result ≡ Told.Farewell }
         ensures row { D.tells → (m : Machine) (job : Job) (now : TimeSpec) → Represents (view_of self.old) (D.view disk.old) m → job.conn ≡ conn → job.body ≡ bodies.Gone → is_dead (m.states conn) ≡ false
             → RowGives (view_of self.old) now job result m (view_of self.new) (D.view disk.old) (D.view disk.new) }
-        ensures syncs { D.tells → (m : Machine) → Represents (view_of self.old) (D.view disk.old) m → Syncs NoLog (view_of self.old) (view_of self.new) (D.view disk.old) (D.view disk.new) }
-        ensures does { Does [] ⊥ ⊥ (view_of self.old) (view_of self.new) (D.view disk.old) (D.view disk.new) }
     {
         forget(&mut self.noting, conn);
-        self.leave(disk, conn, ConnState::Fresh);
+        self.enter_state(disk, conn, ConnState::Fresh);
         Told::Farewell
     }
 
     /// A job of a dead connection is dropped, and a `Gone` forgets the connection.
     pub(crate) fn drop_job<D: Disk>(&mut self, disk: &mut D, conn: ConnId, body: &Body) -> Told
         requires stands { D.tells → (m : Machine) × Represents (view_of self.old) (D.view disk.old) m }
-        ensures keeps { Keeps (view_of self.old) (view_of self.new) }
+        ensures frame { CallKeeps D.tells [] ⊥ ⊥ (view_of self.old) (view_of self.new) (D.view disk.old) (D.view disk.new) }
         ensures told { result ≡ Told.Nothing }
         ensures row { D.tells → (m : Machine) (job : Job) (now : TimeSpec) → Represents (view_of self.old) (D.view disk.old) m → job.conn ≡ conn → job.body ≡ body.now → is_dead (m.states conn) ≡ true
             → RowGives (view_of self.old) now job result m (view_of self.new) (D.view disk.old) (D.view disk.new) }
-        ensures syncs { D.tells → (m : Machine) → Represents (view_of self.old) (D.view disk.old) m → Syncs NoLog (view_of self.old) (view_of self.new) (D.view disk.old) (D.view disk.new) }
-        ensures does { Does [] ⊥ ⊥ (view_of self.old) (view_of self.new) (D.view disk.old) (D.view disk.new) }
     {
         if let Body::Gone = body {
             forget(&mut self.noting, conn);
-            self.leave(disk, conn, ConnState::Fresh);
+            self.enter_state(disk, conn, ConnState::Fresh);
         }
         Told::Nothing
     }

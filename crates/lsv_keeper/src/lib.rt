@@ -12,6 +12,7 @@ mod leave;
 mod logs;
 mod open;
 mod own;
+mod policy;
 mod record;
 mod report;
 mod restart;
@@ -27,3 +28,4 @@ pub use laws::{
     a_number_that_was_told_is_drawn, a_run_recovers_turn_by_turn, a_turn_keeps_event_lines,
     all_runs_recover, more_room_changes_nothing, runs_recover,
 };
+pub use policy::{LaneId, Policy};

@@ -19,13 +19,12 @@ ghost use Rattle.lsv_keeper.specs.Value.{IsResting};
 ghost use Rattle.lsv_keeper.specs.Views.{view_of};
 
 use crate::logs::OpenLogs;
-use crate::{Keeper, StoreFault};
-use lsv_base::{Bytes, List};
+use crate::{Keeper, LaneId, Policy, StoreFault};
 use lsv_bundle::BundleFault;
 use lsv_disk::{Disk, FileId, Owner, Part};
 use lsv_eventlog::EventLog;
-use lsv_hook::{Formatter, LineWriter};
-use lsv_mask::{Prompt, Search};
+use lsv_hook::LineWriter;
+use lsv_mask::Search;
 use lsv_seq::{Numbers, SeqFault};
 use lsv_session::Table;
 use std::alloc::Global;
@@ -90,7 +89,7 @@ fn events_fault(lane: u32, fault: BundleFault) -> StoreFault
 }
 
 impl<F: LineWriter + Drop, H: Search + Drop> Keeper<F, H> {
-    /// Opens the store of a lane of this many lanes, at most eight: its numbers, and then its event log; what is absent or
+    /// Opens the store of a lane, one of at most eight: its numbers, and then its event log; what is absent or
     /// has no entry is made. `Device` only where a device call on a file of that owner failed; `LanesDiffer` where the
     /// number file is of another number of lanes; `Damaged` of the number file where its last entry isn't one of the
     /// lane's, and of the event log's lines where these are absent or fewer than its last entry says. Whatever fails, no
@@ -98,38 +97,41 @@ impl<F: LineWriter + Drop, H: Search + Drop> Keeper<F, H> {
     pub fn open<D: Disk>(
         alloc: Global,
         disk: &mut D,
-        lane: u32,
-        lanes: u32,
-        formatter: Formatter<F>,
-        log_exit: bool,
-        texts: List<Bytes>,
-        prompt: Prompt<H>,
+        lane: LaneId,
+        policy: Policy<F, H>,
     ) -> Result<Self, StoreFault>
-        requires lane { lane < lanes }
-        requires lanes { lanes ≤ 8 }
-        ensures set { IfOk result (λ k. IsSetTo lane lanes formatter.kind log_exit texts (view_of k)) }
+        requires lane { lane.number < lane.of }
+        requires lanes { lane.of ≤ 8 }
+        ensures set { IfOk result (λ k. IsSetTo lane.number lane.of policy.formatter.kind policy.log_exit policy.texts (view_of k)) }
         ensures rests { IfOk result (λ k. IsResting (view_of k)) }
         ensures sound { IfOk result (λ k. HasFailed (view_of k) → ⊥) }
-        ensures read { D.tells → IfOk result (λ k. judged lane lanes (entry_at lane (D.view disk.old).reads) ≡ Ok (last_of (view_of k).numbers)) }
-        ensures held { D.tells → IfOk result (λ k. HoldsLines (D.view disk.old).reads lane (committed_text (view_of k).events (D.view disk.new))) }
-        ensures fault { D.tells → IfErr result (IsStoreFault lane lanes (D.view disk.old).reads) }
-        ensures store { D.tells → OpensStore (reading_of lane lanes) lane lanes (D.view disk.old) (D.view disk.new) }
-        ensures touched { D.tells → Throughout (IsOfJob lane None) (λ _. Unit {0}) (D.view disk.old) (D.view disk.new) }
+        ensures read { D.tells → IfOk result (λ k. judged lane.number lane.of (entry_at lane.number (D.view disk.old).reads) ≡ Ok (last_of (view_of k).numbers)) }
+        ensures held { D.tells → IfOk result (λ k. HoldsLines (D.view disk.old).reads lane.number (committed_text (view_of k).events (D.view disk.new))) }
+        ensures fault { D.tells → IfErr result (IsStoreFault lane.number lane.of (D.view disk.old).reads) }
+        ensures store { D.tells → OpensStore (reading_of lane.number lane.of) lane.number lane.of (D.view disk.old) (D.view disk.new) }
+        ensures touched { D.tells → Throughout (IsOfJob lane.number None) (λ _. Unit {0}) (D.view disk.old) (D.view disk.new) }
         ensures unused { D.tells → NoLogUsed (D.view disk.old) (D.view disk.new) }
-        ensures kept { D.tells → entry_at lane (D.view disk.old).reads ≢ None → KeepsEntry lane (D.view disk.old) (D.view disk.new) }
-        ensures opened { D.tells → NumbersFit (reading_of lane lanes) lane lanes (IsCrashImage (D.view disk.old)) → IfOk result (λ k. OpensAs lane lanes texts (D.view disk.old) (D.view disk.new) (view_of k)) }
+        ensures kept { D.tells → entry_at lane.number (D.view disk.old).reads ≢ None → KeepsEntry lane.number (D.view disk.old) (D.view disk.new) }
+        ensures opened { D.tells → NumbersFit (reading_of lane.number lane.of) lane.number lane.of (IsCrashImage (D.view disk.old)) → IfOk result (λ k. OpensAs lane.number lane.of policy.texts (D.view disk.old) (D.view disk.new) (view_of k)) }
         ensures cause { (o : Owner) → HasOwnCause (λ f. f.owner ≡ o) (IsErrOf result (StoreFault.Device o)) (D.view disk.old) (D.view disk.new) }
     {
-        let numbers = open_numbers(disk, lane, lanes)?;
-        let events = open_events(alloc, disk, lane)?;
+        let LaneId { number, of } = lane;
+        let numbers = open_numbers(disk, number, of)?;
+        let events = open_events(alloc, disk, number)?;
+        let Policy {
+            formatter,
+            log_exit,
+            texts,
+            prompt,
+        } = policy;
         let table = Table::new(alloc);
         let logs = OpenLogs::new(alloc);
         let waiting = Vec::new(alloc);
         let noting = Vec::new(alloc);
         Ok(Keeper {
             alloc,
-            lane,
-            lanes,
+            lane: number,
+            lanes: of,
             log_exit,
             texts,
             formatter,

@@ -8,6 +8,8 @@ ghost use Rattle.lsv_session.specs.declared.job.Body.TheVariants as bodies;
 ghost use Rattle.lsv_session.specs.declared.job.Job.{Job};
 ghost use Rattle.lsv_machine.specs.Failures.{AsksFor};
 ghost use Rattle.lsv_machine.specs.Machine.{Machine, is_dead, log_of};
+ghost use Rattle.lsv_keeper.specs.Frames.{CallKeeps};
+ghost use Rattle.lsv_keeper.specs.Jobs.{DoesRequest};
 ghost use Rattle.lsv_keeper.specs.Logs.{IsWindowFit};
 ghost use Rattle.lsv_keeper.specs.Represents.{Represents};
 ghost use Rattle.lsv_keeper.specs.Moved.{MaskMoved};
@@ -17,7 +19,7 @@ ghost use Rattle.lsv_keeper.specs.declared.logs.OpenLog.{OpenLog};
 ghost use Rattle.lsv_session.specs.declared.connection.ConnState.TheVariants.{Dead};
 ghost use Rattle.lsv_keeper.specs.Views.{view_of};
 ghost use Rattle.lsv_keeper.specs.Syncing.{NoLog, Syncs};
-ghost use Rattle.lsv_keeper.specs.Causes.{Does, TellsFault};
+ghost use Rattle.lsv_keeper.specs.Causes.{Does};
 
 use crate::Keeper;
 use crate::logs::{Appended, log_refusal};
@@ -33,7 +35,7 @@ use lsv_request::Refusal;
 use lsv_session::{ConnId, ConnState};
 
 /// The numbers of a window are of 32 bits, which only their reading shows.
-pub(crate) fn windowed(message: &ClientMessage)
+pub(crate) fn fits_window(message: &ClientMessage)
     ensures { IsWindowFit message.now }
 {
     if let ClientMessage::Winsize(m) = message {
@@ -57,12 +59,7 @@ impl<F: LineWriter, H: Search> Keeper<F, H> {
         requires room { 1 ≤ room (view_of self.old) }
         requires state { state ≡ (sessions_of (view_of self.old)).states conn }
         requires valid { IsValid r }
-        ensures keeps { Keeps (view_of self.old) (view_of self.new) }
-        ensures told { IsTold result }
-        ensures row { D.tells → (m : Machine) (job : Job) (now : TimeSpec) → Represents (view_of self.old) (D.view disk.old) m → job.conn ≡ conn → AsksFor (m.states conn) job.body (request.Record r)
-            → RowGives (view_of self.old) now job result m (view_of self.new) (D.view disk.old) (D.view disk.new) }
-        ensures syncs { D.tells → (m : Machine) → Represents (view_of self.old) (D.view disk.old) m → Syncs NoLog (view_of self.old) (view_of self.new) (D.view disk.old) (D.view disk.new) }
-        ensures does { Does (conn ∷ []) ⊥ (TellsFault result) (view_of self.old) (view_of self.new) (D.view disk.old) (D.view disk.new) }
+        ensures done { (now : TimeSpec) → DoesRequest D.tells now conn (request.Record r) result (view_of self.old) (view_of self.new) (D.view disk.old) (D.view disk.new) }
     {
         let Some(log) = log_of(state) else {
             return Told::Nothing;
@@ -100,7 +97,7 @@ impl<F: LineWriter, H: Search> Keeper<F, H> {
                 None
             }
             Appended::Refused(fault) => {
-                self.let_refused(disk, conn, log);
+                self.release_refused(disk, conn, log);
                 Some(log_refusal(fault))
             }
             Appended::NotOpen => None,
@@ -111,7 +108,7 @@ impl<F: LineWriter, H: Search> Keeper<F, H> {
     /// large to move, and room for one would be cleared for each record.
     #[cold]
     #[inline(never)]
-    fn let_refused<D: Disk>(&mut self, disk: &mut D, conn: ConnId, log: LogNo)
+    fn release_refused<D: Disk>(&mut self, disk: &mut D, conn: ConnId, log: LogNo)
         requires moved { D.tells → (before : KeeperView) × (its : OpenLog) × (m : Machine) × MaskMoved log its before (view_of self.old) × Represents before (D.view disk.old) m }
         requires room { 1 ≤ room (view_of self.old) }
         ensures keeps { Keeps (view_of self.old) (view_of self.new) }
@@ -131,15 +128,13 @@ impl<F: LineWriter, H: Search> Keeper<F, H> {
     pub(crate) fn want_memory<D: Disk>(&mut self, disk: &mut D, conn: ConnId) -> Told
         requires stands { D.tells → (m : Machine) × Represents (view_of self.old) (D.view disk.old) m }
         requires room { 1 ≤ room (view_of self.old) }
-        ensures keeps { Keeps (view_of self.old) (view_of self.new) }
+        ensures frame { CallKeeps D.tells [] ⊥ ⊥ (view_of self.old) (view_of self.new) (D.view disk.old) (D.view disk.new) }
         ensures is { result ≡ Told.Refused Refusal.OutOfMemory }
         ensures told { IsTold result }
         ensures row { D.tells → (m : Machine) (job : Job) (now : TimeSpec) → Represents (view_of self.old) (D.view disk.old) m → job.conn ≡ conn → is_dead (m.states conn) ≡ false → (job.body ≡ bodies.Gone → ⊥)
             → RowGives (view_of self.old) now job result m (view_of self.new) (D.view disk.old) (D.view disk.new) }
-        ensures syncs { D.tells → (m : Machine) → Represents (view_of self.old) (D.view disk.old) m → Syncs NoLog (view_of self.old) (view_of self.new) (D.view disk.old) (D.view disk.new) }
-        ensures does { Does [] ⊥ ⊥ (view_of self.old) (view_of self.new) (D.view disk.old) (D.view disk.new) }
     {
-        self.leave(disk, conn, ConnState::Dead);
+        self.enter_state(disk, conn, ConnState::Dead);
         Told::Refused(Refusal::OutOfMemory)
     }
 }

@@ -13,12 +13,13 @@ ghost use Rattle.lsv_machine.specs.Failures.{AsksFor};
 ghost use Rattle.lsv_machine.specs.Judgement.{judged};
 ghost use Rattle.lsv_machine.specs.Machine.{Machine};
 ghost use Rattle.lsv_keeper.specs.Accepting.{EntersNoLog, IsEventOf, unless_running};
+ghost use Rattle.lsv_keeper.specs.Frames.{CallKeeps};
+ghost use Rattle.lsv_keeper.specs.Jobs.{DoesRequest};
 ghost use Rattle.lsv_keeper.specs.Represents.{Represents};
 ghost use Rattle.lsv_keeper.specs.Rows.{IsTold, RowGives};
-ghost use Rattle.lsv_keeper.specs.Value.{Keeps, peer_of, room, sessions_of, settings_of};
+ghost use Rattle.lsv_keeper.specs.Value.{peer_of, room, sessions_of, settings_of};
 ghost use Rattle.lsv_keeper.specs.Views.{view_of};
-ghost use Rattle.lsv_keeper.specs.Syncing.{NoLog, Syncs};
-ghost use Rattle.lsv_keeper.specs.Causes.{Does, TellsFault};
+ghost use Rattle.lsv_keeper.specs.Causes.{TellsFault};
 
 use crate::Keeper;
 use crate::told::Told;
@@ -65,14 +66,9 @@ impl<F: LineWriter, H: Search> Keeper<F, H> {
     pub(crate) fn greet<D: Disk>(&mut self, disk: &mut D, conn: ConnId) -> Told
         requires stands { D.tells → (m : Machine) × Represents (view_of self.old) (D.view disk.old) m }
         requires room { 1 ≤ room (view_of self.old) }
-        ensures keeps { Keeps (view_of self.old) (view_of self.new) }
-        ensures told { IsTold result }
-        ensures row { D.tells → (m : Machine) (job : Job) (now : TimeSpec) → Represents (view_of self.old) (D.view disk.old) m → job.conn ≡ conn → AsksFor (m.states conn) job.body requests.Hello
-            → RowGives (view_of self.old) now job result m (view_of self.new) (D.view disk.old) (D.view disk.new) }
-        ensures syncs { D.tells → (m : Machine) → Represents (view_of self.old) (D.view disk.old) m → Syncs NoLog (view_of self.old) (view_of self.new) (D.view disk.old) (D.view disk.new) }
-        ensures does { Does (conn ∷ []) ⊥ (TellsFault result) (view_of self.old) (view_of self.new) (D.view disk.old) (D.view disk.new) }
+        ensures done { (now : TimeSpec) → DoesRequest D.tells now conn requests.Hello result (view_of self.old) (view_of self.new) (D.view disk.old) (D.view disk.new) }
     {
-        self.leave(disk, conn, ConnState::Greeted);
+        self.enter_state(disk, conn, ConnState::Greeted);
         Told::Nothing
     }
 
@@ -90,12 +86,7 @@ impl<F: LineWriter, H: Search> Keeper<F, H> {
         requires asked { (message : ClientMessage) × (judged state message ≡ Ok (requests.Reject report)) }
         requires stands { D.tells → (m : Machine) × Represents (view_of self.old) (D.view disk.old) m }
         requires room { 1 ≤ room (view_of self.old) }
-        ensures keeps { Keeps (view_of self.old) (view_of self.new) }
-        ensures told { IsTold result }
-        ensures row { D.tells → (m : Machine) (job : Job) → Represents (view_of self.old) (D.view disk.old) m → job.conn ≡ conn → AsksFor (m.states conn) job.body (requests.Reject report)
-            → RowGives (view_of self.old) now job result m (view_of self.new) (D.view disk.old) (D.view disk.new) }
-        ensures syncs { D.tells → (m : Machine) → Represents (view_of self.old) (D.view disk.old) m → Syncs NoLog (view_of self.old) (view_of self.new) (D.view disk.old) (D.view disk.new) }
-        ensures does { Does (conn ∷ []) (Unit {0}) (TellsFault result) (view_of self.old) (view_of self.new) (D.view disk.old) (D.view disk.new) }
+        ensures done { DoesRequest D.tells now conn (requests.Reject report) result (view_of self.old) (view_of self.new) (D.view disk.old) (D.view disk.new) }
     {
         let event = Event::Reject {
             at: now,
@@ -123,12 +114,7 @@ impl<F: LineWriter, H: Search> Keeper<F, H> {
         requires asked { (message : ClientMessage) × (judged state message ≡ Ok (requests.Alert report)) }
         requires stands { D.tells → (m : Machine) × Represents (view_of self.old) (D.view disk.old) m }
         requires room { 1 ≤ room (view_of self.old) }
-        ensures keeps { Keeps (view_of self.old) (view_of self.new) }
-        ensures told { IsTold result }
-        ensures row { D.tells → (m : Machine) (job : Job) → Represents (view_of self.old) (D.view disk.old) m → job.conn ≡ conn → AsksFor (m.states conn) job.body (requests.Alert report)
-            → RowGives (view_of self.old) now job result m (view_of self.new) (D.view disk.old) (D.view disk.new) }
-        ensures syncs { D.tells → (m : Machine) → Represents (view_of self.old) (D.view disk.old) m → Syncs NoLog (view_of self.old) (view_of self.new) (D.view disk.old) (D.view disk.new) }
-        ensures does { Does (conn ∷ []) (Unit {0}) (TellsFault result) (view_of self.old) (view_of self.new) (D.view disk.old) (D.view disk.new) }
+        ensures done { DoesRequest D.tells now conn (requests.Alert report) result (view_of self.old) (view_of self.new) (D.view disk.old) (D.view disk.new) }
     {
         let event = Event::Alert {
             at: now,
@@ -159,26 +145,24 @@ impl<F: LineWriter, H: Search> Keeper<F, H> {
         requires writes_none { EntersNoLog next }
         requires stands { D.tells → (m : Machine) × Represents (view_of self.old) (D.view disk.old) m }
         requires room { 1 ≤ room (view_of self.old) }
-        ensures keeps { Keeps (view_of self.old) (view_of self.new) }
+        ensures frame { CallKeeps D.tells (conn ∷ []) (Unit {0}) (TellsFault result) (view_of self.old) (view_of self.new) (D.view disk.old) (D.view disk.new) }
         ensures told { IsTold result }
         ensures row { D.tells → (m : Machine) (job : Job) (now : TimeSpec) (asked : Request) → Represents (view_of self.old) (D.view disk.old) m → job.conn ≡ conn → AsksFor (m.states conn) job.body asked
             → IsEventOf (settings_of (view_of self.old)) now conn (m.states conn) asked (line_of (view_of self.old).kind event.now) next m
             → RowGives (view_of self.old) now job result m (view_of self.new) (D.view disk.old) (D.view disk.new) }
-        ensures syncs { D.tells → (m : Machine) → Represents (view_of self.old) (D.view disk.old) m → Syncs NoLog (view_of self.old) (view_of self.new) (D.view disk.old) (D.view disk.new) }
-        ensures does { Does (conn ∷ []) (Unit {0}) (TellsFault result) (view_of self.old) (view_of self.new) (D.view disk.old) (D.view disk.new) }
     {
         if let Err(why) = self.add_line(disk, conn, event) {
-            self.leave(disk, conn, ConnState::Dead);
+            self.enter_state(disk, conn, ConnState::Dead);
             return Told::Refused(why);
         }
         match next {
             Next::Stays => Told::Nothing,
             Next::Enters(state) => {
-                self.leave(disk, conn, state);
+                self.enter_state(disk, conn, state);
                 Told::Nothing
             }
             Next::Ends => {
-                self.leave(disk, conn, ConnState::Dead);
+                self.enter_state(disk, conn, ConnState::Dead);
                 Told::Shut
             }
         }

@@ -1,22 +1,19 @@
 //! Restarts: a connection goes on with a log.
 
-ghost use Rattle.std.specs.Prelude.{◌≡◌, ◌≢◌, ◌≤◌, ℕ, OnOk, IfOk, IfErr, [], ◌∷◌, false};
+ghost use Rattle.std.specs.Prelude.{◌≡◌, ◌≢◌, ◌≤◌, ℕ, OnOk, IfOk, IfErr, false};
 ghost use Rattle.lsv_base.specs.declared.time.TimeSpec.{TimeSpec};
 ghost use Rattle.lsv_disk.specs.declared.file.FileId.{FileId};
 ghost use Rattle.lsv_request.specs.declared.request.Request.TheVariants as request;
 ghost use Rattle.lsv_session.specs.Table.{spare_owners};
-ghost use Rattle.lsv_session.specs.declared.job.Job.{Job};
-ghost use Rattle.lsv_machine.specs.Failures.{AsksFor};
 ghost use Rattle.lsv_machine.specs.Machine.{Machine};
+ghost use Rattle.lsv_keeper.specs.Jobs.{DoesRequest};
 ghost use Rattle.lsv_keeper.specs.Logs.{spare_logs};
 ghost use Rattle.lsv_keeper.specs.Represents.{Represents};
 ghost use Rattle.lsv_keeper.specs.Resuming.{IsResumed, IsResumeFault, restart_refusal};
-ghost use Rattle.lsv_keeper.specs.Rows.{IsTold, RowGives};
-ghost use Rattle.lsv_keeper.specs.Value.{IsReserved, Keeps, room};
+ghost use Rattle.lsv_keeper.specs.Value.{IsReserved, room};
 ghost use Rattle.lsv_keeper.specs.Views.{view_of};
-ghost use Rattle.lsv_keeper.specs.Syncing.{Syncs, Unused};
-ghost use Rattle.lsv_keeper.specs.Syncs.{SparesDamaged};
-ghost use Rattle.lsv_keeper.specs.Causes.{Does, StoreRose, TellsFault};
+ghost use Rattle.lsv_keeper.specs.Syncing.{Unused};
+ghost use Rattle.lsv_keeper.specs.Causes.{StoreRose};
 
 use crate::Keeper;
 use crate::logs::OpenLog;
@@ -36,13 +33,7 @@ impl<F: LineWriter, H: Search> Keeper<F, H> {
     pub(crate) fn restart<D: Disk>(&mut self, disk: &mut D, conn: ConnId, restart: Restart) -> Told
         requires stands { D.tells → (m : Machine) × Represents (view_of self.old) (D.view disk.old) m }
         requires room { 1 ≤ room (view_of self.old) }
-        ensures keeps { Keeps (view_of self.old) (view_of self.new) }
-        ensures told { IsTold result }
-        ensures row { D.tells → (m : Machine) (job : Job) (now : TimeSpec) → Represents (view_of self.old) (D.view disk.old) m → job.conn ≡ conn → AsksFor (m.states conn) job.body (request.Restart restart)
-            → RowGives (view_of self.old) now job result m (view_of self.new) (D.view disk.old) (D.view disk.new) }
-        ensures syncs { D.tells → (m : Machine) → Represents (view_of self.old) (D.view disk.old) m → Syncs (λ n. n ≡ restart.log) (view_of self.old) (view_of self.new) (D.view disk.old) (D.view disk.new) }
-        ensures spared { D.tells → (m : Machine) → Represents (view_of self.old) (D.view disk.old) m → SparesDamaged m (D.view disk.old) (D.view disk.new) }
-        ensures does { Does (conn ∷ []) ⊥ (TellsFault result) (view_of self.old) (view_of self.new) (D.view disk.old) (D.view disk.new) }
+        ensures done { (now : TimeSpec) → DoesRequest D.tells now conn (request.Restart restart) result (view_of self.old) (view_of self.new) (D.view disk.old) (D.view disk.new) }
     {
         if self.table.owner(restart.log).is_some() {
             return self.refuse(disk, conn, Refusal::LogInUse);
@@ -53,7 +44,7 @@ impl<F: LineWriter, H: Search> Keeper<F, H> {
                 Told::Nothing
             }
             Err(fault) => {
-                self.leave(disk, conn, ConnState::Dead);
+                self.enter_state(disk, conn, ConnState::Dead);
                 Told::Refused(restart_refusal(fault))
             }
         }

@@ -1,27 +1,24 @@
 //! Jobs: what a connection brings is judged, worked on and answered.
 
-ghost use Rattle.std.specs.Prelude.{◌≡◌, ◌≤◌, ◌+◌, true, false, Ok, IsSome, [], ◌∷◌};
+ghost use Rattle.std.specs.Prelude.{◌≡◌, ◌≤◌, false, Ok, IsSome, [], ◌∷◌};
 ghost use Rattle.lsv_base.specs.Time.{nanos_of};
 ghost use Rattle.lsv_msg.specs.declared.messages.ClientMessage.{ClientMessage};
 ghost use Rattle.lsv_session.specs.declared.job.Body.TheVariants as bodies;
-ghost use Rattle.lsv_session.specs.declared.job.Job.{Job};
-ghost use Rattle.lsv_machine.specs.Failures.{AsksFor};
 ghost use Rattle.lsv_machine.specs.Judgement.{judged};
 ghost use Rattle.lsv_machine.specs.Machine.{Machine, is_dead};
-ghost use Rattle.lsv_machine.specs.Work.{has_line};
+ghost use Rattle.lsv_keeper.specs.Frames.{JobKeeps};
+ghost use Rattle.lsv_keeper.specs.Jobs.{DoesJob, DoesRequest};
 ghost use Rattle.lsv_keeper.specs.Logs.{IsWindowFit};
 ghost use Rattle.lsv_keeper.specs.Replies.{room_in};
 ghost use Rattle.lsv_keeper.specs.Represents.{Represents};
-ghost use Rattle.lsv_keeper.specs.Rows.{IsTold, RowGives};
 ghost use Rattle.lsv_keeper.specs.Tails.{JobGives};
-ghost use Rattle.lsv_keeper.specs.Value.{Keeps, room, sessions_of, AreWhole, settings_of};
+ghost use Rattle.lsv_keeper.specs.Value.{AreWhole, room, sessions_of};
 ghost use Rattle.lsv_keeper.specs.Views.{view_of};
-ghost use Rattle.lsv_keeper.specs.Syncing.{GoesOnWith, Syncs};
-ghost use Rattle.lsv_keeper.specs.Syncs.{Restarts, SparesDamaged};
-ghost use Rattle.lsv_keeper.specs.Causes.{BringsLine, Does, MayAnswer, Says, TellsFault};
+ghost use Rattle.lsv_keeper.specs.Syncs.{Restarts};
+ghost use Rattle.lsv_keeper.specs.Causes.{BringsLine, MayAnswer, Says};
 
 use crate::Keeper;
-use crate::record::windowed;
+use crate::record::fits_window;
 use crate::told::{Told, put_replies};
 use lsv_base::TimeSpec;
 use lsv_disk::Disk;
@@ -45,13 +42,9 @@ impl<F: LineWriter, H: Search> Keeper<F, H> {
         requires stands { D.tells → (m : Machine) × Represents (view_of self.old) (D.view disk.old) m }
         requires places { 1 ≤ room (view_of self.old) }
         requires replies { 2 ≤ room_in out.old }
-        ensures keeps { Keeps (view_of self.old) (view_of self.new) }
-        ensures room { room_in out.old ≤ room_in out.new + 2 }
+        ensures frame { JobKeeps D.tells (Restarts job.body) (job.conn ∷ []) (view_of self.old) (view_of self.new) out.old out.new (D.view disk.old) (D.view disk.new) }
         ensures answered { D.tells → (m : Machine) → Represents (view_of self.old) (D.view disk.old) m
             → JobGives (view_of self.old) now job m out.old.items out.new.items (view_of self.new) (D.view disk.old) (D.view disk.new) }
-        ensures syncs { D.tells → (m : Machine) → Represents (view_of self.old) (D.view disk.old) m → Syncs (Restarts job.body) (view_of self.old) (view_of self.new) (D.view disk.old) (D.view disk.new) }
-        ensures spared { D.tells → (m : Machine) → Represents (view_of self.old) (D.view disk.old) m → SparesDamaged m (D.view disk.old) (D.view disk.new) }
-        ensures does { Does (job.conn ∷ []) ⊥ ⊥ (view_of self.old) (view_of self.new) (D.view disk.old) (D.view disk.new) }
         ensures says { AreWhole (view_of self.old).logs → Says (λ k. k ≡ job.conn) (λ k. MayAnswer (BringsLine (view_of self.old).log_exit job.body) (view_of self.old) (D.view disk.old) (D.view disk.new)) out.old.items out.new.items }
     {
         let Job { conn, body } = job;
@@ -64,13 +57,7 @@ impl<F: LineWriter, H: Search> Keeper<F, H> {
         requires timed { IsSome (nanos_of now) }
         requires stands { D.tells → (m : Machine) × Represents (view_of self.old) (D.view disk.old) m }
         requires room { 1 ≤ room (view_of self.old) }
-        ensures keeps { Keeps (view_of self.old) (view_of self.new) }
-        ensures told { IsTold result }
-        ensures row { D.tells → (m : Machine) (job : Job) → Represents (view_of self.old) (D.view disk.old) m → job.conn ≡ conn → job.body ≡ body
-            → RowGives (view_of self.old) now job result m (view_of self.new) (D.view disk.old) (D.view disk.new) }
-        ensures syncs { D.tells → (m : Machine) → Represents (view_of self.old) (D.view disk.old) m → Syncs (Restarts body) (view_of self.old) (view_of self.new) (D.view disk.old) (D.view disk.new) }
-        ensures spared { D.tells → (m : Machine) → Represents (view_of self.old) (D.view disk.old) m → SparesDamaged m (D.view disk.old) (D.view disk.new) }
-        ensures does { Does (conn ∷ []) (BringsLine (view_of self.old).log_exit body) (TellsFault result) (view_of self.old) (view_of self.new) (D.view disk.old) (D.view disk.new) }
+        ensures done { DoesJob D.tells now conn body result (view_of self.old) (view_of self.new) (D.view disk.old) (D.view disk.new) }
     {
         let state = self.table.state(conn);
         if let ConnState::Dead = state {
@@ -93,13 +80,7 @@ impl<F: LineWriter, H: Search> Keeper<F, H> {
         requires alive { is_dead ((sessions_of (view_of self.old)).states conn) ≡ false }
         requires stands { D.tells → (m : Machine) × Represents (view_of self.old) (D.view disk.old) m }
         requires room { 1 ≤ room (view_of self.old) }
-        ensures keeps { Keeps (view_of self.old) (view_of self.new) }
-        ensures told { IsTold result }
-        ensures row { D.tells → (m : Machine) (job : Job) → Represents (view_of self.old) (D.view disk.old) m → job.conn ≡ conn → job.body ≡ body
-            → RowGives (view_of self.old) now job result m (view_of self.new) (D.view disk.old) (D.view disk.new) }
-        ensures syncs { D.tells → (m : Machine) → Represents (view_of self.old) (D.view disk.old) m → Syncs (Restarts body) (view_of self.old) (view_of self.new) (D.view disk.old) (D.view disk.new) }
-        ensures spared { D.tells → (m : Machine) → Represents (view_of self.old) (D.view disk.old) m → SparesDamaged m (D.view disk.old) (D.view disk.new) }
-        ensures does { Does (conn ∷ []) (BringsLine (view_of self.old).log_exit body) (TellsFault result) (view_of self.old) (view_of self.new) (D.view disk.old) (D.view disk.new) }
+        ensures done { DoesJob D.tells now conn body result (view_of self.old) (view_of self.new) (D.view disk.old) (D.view disk.new) }
     {
         match body {
             Body::Msg(message) => self.hear(disk, now, conn, state, message),
@@ -123,13 +104,7 @@ impl<F: LineWriter, H: Search> Keeper<F, H> {
         requires alive { is_dead ((sessions_of (view_of self.old)).states conn) ≡ false }
         requires stands { D.tells → (m : Machine) × Represents (view_of self.old) (D.view disk.old) m }
         requires room { 1 ≤ room (view_of self.old) }
-        ensures keeps { Keeps (view_of self.old) (view_of self.new) }
-        ensures told { IsTold result }
-        ensures row { D.tells → (m : Machine) (job : Job) → Represents (view_of self.old) (D.view disk.old) m → job.conn ≡ conn → job.body ≡ bodies.Msg message
-            → RowGives (view_of self.old) now job result m (view_of self.new) (D.view disk.old) (D.view disk.new) }
-        ensures syncs { D.tells → (m : Machine) → Represents (view_of self.old) (D.view disk.old) m → Syncs (Restarts (bodies.Msg message)) (view_of self.old) (view_of self.new) (D.view disk.old) (D.view disk.new) }
-        ensures spared { D.tells → (m : Machine) → Represents (view_of self.old) (D.view disk.old) m → SparesDamaged m (D.view disk.old) (D.view disk.new) }
-        ensures does { Does (conn ∷ []) (BringsLine (view_of self.old).log_exit (bodies.Msg message)) (TellsFault result) (view_of self.old) (view_of self.new) (D.view disk.old) (D.view disk.new) }
+        ensures done { DoesJob D.tells now conn (bodies.Msg message) result (view_of self.old) (view_of self.new) (D.view disk.old) (D.view disk.new) }
     {
         match message {
             ClientMessage::Ttyin(m) => self.judge(disk, now, conn, state, ClientMessage::Ttyin(m)),
@@ -163,13 +138,7 @@ impl<F: LineWriter, H: Search> Keeper<F, H> {
         requires alive { is_dead ((sessions_of (view_of self.old)).states conn) ≡ false }
         requires stands { D.tells → (m : Machine) × Represents (view_of self.old) (D.view disk.old) m }
         requires room { 1 ≤ room (view_of self.old) }
-        ensures keeps { Keeps (view_of self.old) (view_of self.new) }
-        ensures told { IsTold result }
-        ensures row { D.tells → (m : Machine) (job : Job) → Represents (view_of self.old) (D.view disk.old) m → job.conn ≡ conn → job.body ≡ bodies.Msg message
-            → RowGives (view_of self.old) now job result m (view_of self.new) (D.view disk.old) (D.view disk.new) }
-        ensures syncs { D.tells → (m : Machine) → Represents (view_of self.old) (D.view disk.old) m → Syncs (Restarts (bodies.Msg message)) (view_of self.old) (view_of self.new) (D.view disk.old) (D.view disk.new) }
-        ensures spared { D.tells → (m : Machine) → Represents (view_of self.old) (D.view disk.old) m → SparesDamaged m (D.view disk.old) (D.view disk.new) }
-        ensures does { Does (conn ∷ []) (BringsLine (view_of self.old).log_exit (bodies.Msg message)) (TellsFault result) (view_of self.old) (view_of self.new) (D.view disk.old) (D.view disk.new) }
+        ensures done { DoesJob D.tells now conn (bodies.Msg message) result (view_of self.old) (view_of self.new) (D.view disk.old) (D.view disk.new) }
     {
         self.judge(disk, now, conn, state, message)
     }
@@ -189,15 +158,9 @@ impl<F: LineWriter, H: Search> Keeper<F, H> {
         requires alive { is_dead ((sessions_of (view_of self.old)).states conn) ≡ false }
         requires stands { D.tells → (m : Machine) × Represents (view_of self.old) (D.view disk.old) m }
         requires room { 1 ≤ room (view_of self.old) }
-        ensures keeps { Keeps (view_of self.old) (view_of self.new) }
-        ensures told { IsTold result }
-        ensures row { D.tells → (m : Machine) (job : Job) → Represents (view_of self.old) (D.view disk.old) m → job.conn ≡ conn → job.body ≡ bodies.Msg message
-            → RowGives (view_of self.old) now job result m (view_of self.new) (D.view disk.old) (D.view disk.new) }
-        ensures syncs { D.tells → (m : Machine) → Represents (view_of self.old) (D.view disk.old) m → Syncs (Restarts (bodies.Msg message)) (view_of self.old) (view_of self.new) (D.view disk.old) (D.view disk.new) }
-        ensures spared { D.tells → (m : Machine) → Represents (view_of self.old) (D.view disk.old) m → SparesDamaged m (D.view disk.old) (D.view disk.new) }
-        ensures does { Does (conn ∷ []) (BringsLine (view_of self.old).log_exit (bodies.Msg message)) (TellsFault result) (view_of self.old) (view_of self.new) (D.view disk.old) (D.view disk.new) }
+        ensures done { DoesJob D.tells now conn (bodies.Msg message) result (view_of self.old) (view_of self.new) (D.view disk.old) (D.view disk.new) }
     {
-        windowed(&message);
+        fits_window(&message);
         match judged(state.copied(), message) {
             Ok(request) => self.work(disk, now, conn, state, request),
             Err(why) => self.refuse(disk, conn, why),
@@ -219,13 +182,7 @@ impl<F: LineWriter, H: Search> Keeper<F, H> {
         requires asked { (message : ClientMessage) × IsWindowFit message × (judged state message ≡ Ok request) }
         requires stands { D.tells → (m : Machine) × Represents (view_of self.old) (D.view disk.old) m }
         requires room { 1 ≤ room (view_of self.old) }
-        ensures keeps { Keeps (view_of self.old) (view_of self.new) }
-        ensures told { IsTold result }
-        ensures row { D.tells → (m : Machine) (job : Job) → Represents (view_of self.old) (D.view disk.old) m → job.conn ≡ conn → AsksFor (m.states conn) job.body request
-            → RowGives (view_of self.old) now job result m (view_of self.new) (D.view disk.old) (D.view disk.new) }
-        ensures syncs { D.tells → (m : Machine) → Represents (view_of self.old) (D.view disk.old) m → Syncs (GoesOnWith request) (view_of self.old) (view_of self.new) (D.view disk.old) (D.view disk.new) }
-        ensures spared { D.tells → (m : Machine) → Represents (view_of self.old) (D.view disk.old) m → SparesDamaged m (D.view disk.old) (D.view disk.new) }
-        ensures does { Does (conn ∷ []) (has_line (settings_of (view_of self.old)) request ≡ true) (TellsFault result) (view_of self.old) (view_of self.new) (D.view disk.old) (D.view disk.new) }
+        ensures done { DoesRequest D.tells now conn request result (view_of self.old) (view_of self.new) (D.view disk.old) (D.view disk.new) }
     {
         match request {
             Request::Record(r) => self.record(disk, conn, state, r),
@@ -249,13 +206,7 @@ impl<F: LineWriter, H: Search> Keeper<F, H> {
         requires asked { (message : ClientMessage) × IsWindowFit message × (judged state message ≡ Ok request) }
         requires stands { D.tells → (m : Machine) × Represents (view_of self.old) (D.view disk.old) m }
         requires room { 1 ≤ room (view_of self.old) }
-        ensures keeps { Keeps (view_of self.old) (view_of self.new) }
-        ensures told { IsTold result }
-        ensures row { D.tells → (m : Machine) (job : Job) → Represents (view_of self.old) (D.view disk.old) m → job.conn ≡ conn → AsksFor (m.states conn) job.body request
-            → RowGives (view_of self.old) now job result m (view_of self.new) (D.view disk.old) (D.view disk.new) }
-        ensures syncs { D.tells → (m : Machine) → Represents (view_of self.old) (D.view disk.old) m → Syncs (GoesOnWith request) (view_of self.old) (view_of self.new) (D.view disk.old) (D.view disk.new) }
-        ensures spared { D.tells → (m : Machine) → Represents (view_of self.old) (D.view disk.old) m → SparesDamaged m (D.view disk.old) (D.view disk.new) }
-        ensures does { Does (conn ∷ []) (has_line (settings_of (view_of self.old)) request ≡ true) (TellsFault result) (view_of self.old) (view_of self.new) (D.view disk.old) (D.view disk.new) }
+        ensures done { DoesRequest D.tells now conn request result (view_of self.old) (view_of self.new) (D.view disk.old) (D.view disk.new) }
     {
         match request {
             Request::Hello => self.greet(disk, conn),

@@ -8,7 +8,7 @@ use Rattle.lsv_machine.specs.Disks.{NumbersFit}
 use Rattle.lsv_machine.specs.Durable.{Reading}
 use Rattle.lsv_machine.specs.Keeping.{OpensStore}
 use Rattle.lsv_machine.specs.Machine.{Machine, Settings}
-use Rattle.lsv_machine.specs.Recovery.{Recovers, Story}
+use Rattle.lsv_machine.specs.Recovery.{Outside, Recovers, Story}
 use Rattle.lsv_machine.specs.Turns.{Happened, Run}
 use Rattle.lsv_machine.proofs.Recovering.{only_opened}
 use Rattle.lsv_machine.proofs.RunLaws.{one_writer}
@@ -52,6 +52,10 @@ keeps_none set texts found now opens unused = record {
   recovers = only_opened (reading_of set.lane set.lanes) set.lane set.lanes texts found now opens;
   spared = λ n nothing file own other. (unused n).writes file own;
 }
+
+-- what is so of a store that was opened, is so under a narrower condition
+pub keeps_less : (opened less : Type 0) (set : Settings) (texts : List (List ℕ)) (o : Outside) (turns : List LaneTurn) → (less → opened) → KeepsStore opened set texts o turns → KeepsStore less set texts o turns
+keeps_less opened less set texts o turns f k = record { story = k.story; are = k.are; conforms = λ x. k.conforms (f x); recovers = k.recovers; spared = k.spared }
 
 -- the numbers fit at the end of a run
 pub fit_now : (r : Reading) (lane lanes : ℕ) (texts : List (List ℕ)) (found left : DiskView) (s : Story) → ((image : Image) → IsCrashImage left image → left.crash_images_at left.moment image)

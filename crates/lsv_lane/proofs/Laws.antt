@@ -1,7 +1,7 @@
 -- To whom a lane replies.
-use Rattle.std.proofs.Common.{◌≡◌, inr, ◌++◌, ◌∷◌, [], List, ℕ, true, false, refl, sym, ap, subst, ◌∙◌, append_assoc}
+use Rattle.std.proofs.Common.{◌≡◌, ◌≢◌, inl, inr, ◌++◌, ◌∷◌, [], List, ℕ, true, false, refl, sym, ap, subst, ◌∙◌, append_assoc}
 use Rattle.std.specs.Prelude.{map}
-use Rattle.std.specs.List.{flat_map, list_any}
+use Rattle.std.specs.List.{AllByRecursion, flat_map, list_any}
 use Rattle.std.proofs.lemmas.List.{map-append}
 use Rattle.lsv_disk.specs.View.{DiskView}
 use Rattle.lsv_session.specs.Connections.{same}
@@ -21,9 +21,10 @@ use Rattle.lsv_machine.specs.Turns.{Happened, Happened.Did, Happened.Tailed, Hap
 use Rattle.lsv_machine.proofs.Choices.{SameOr.alike, SameOr.apart, same_or}
 use Rattle.lsv_machine.proofs.RunLaws.{starts_sound}
 use Rattle.lsv_machine.proofs.Silent.{none_append, silence}
+use Rattle.lsv_keeper.specs.Causes.{AnyIsOf}
 use Rattle.lsv_keeper.specs.Value.{KeeperView}
 use Rattle.lsv_turn.specs.Turns as lane_turns
-use Rattle.lsv_turn.specs.Turns.{AreAskedIn, LaneTurn, NoneFor, jobs_in, replies_in}
+use Rattle.lsv_turn.specs.Turns.{AreAskedIn, IsToThese, LaneTurn, NoneFor, jobs_in, replies_in}
 use Rattle.lsv_lane.specs.InnerLane.{Standing}
 use Rattle.lsv_lane.specs.Store.{AreTurns}
 use Rattle.lsv_lane.proofs.Silences.{Behind, BehindIn, behind_append, behind_in}
@@ -159,3 +160,25 @@ are_asked set texts found now v turns s = record {
   asked = λ k none. says_to_who_asks set texts found now v turns k s none;
   behind = λ k before after r ends are is shut. says_nothing_behind_a_shut set texts found now v turns k s before after r ends are is shut;
 }
+
+-- ---- A turn, over every disk
+
+-- a connection of a job brought something
+brought_some : (jobs : List Job) (k : ConnId) → AnyIsOf jobs k → bodies_of k jobs ≢ []
+brought_some [] k is none = absurd is
+brought_some (job ∷ jobs) k (inl same_conn) none = elim (same_or job.conn k) [
+  | alike is t ↦ (let x : job.body ∷ bodies_of k jobs ≡ [] = rw t at none in absurd (cc))
+  | apart ne t ↦ absurd (ne same_conn)
+]
+brought_some (job ∷ jobs) k (inr more) none = elim (same_or job.conn k) [
+  | alike is t ↦ (let x : job.body ∷ bodies_of k jobs ≡ [] = rw t at none in absurd (cc))
+  | apart ne t ↦ brought_some jobs k more (rw t at none)
+]
+
+-- if each of these replies is to the connection of one of these jobs, none is to a connection that brought none
+pub to_these : (jobs : List Job) (replies : List Reply) → AllByRecursion (λ r. AnyIsOf jobs r.conn) replies → IsToThese jobs replies
+to_these jobs [] all k none = tt
+to_these jobs (r ∷ replies) all k none = elim (same_or r.conn k) [
+  | alike is t ↦ absurd (brought_some jobs k (subst (AnyIsOf jobs) is all.0) none)
+  | apart ne t ↦ (t, to_these jobs replies all.1 k none)
+]

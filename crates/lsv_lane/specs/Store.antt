@@ -1,5 +1,5 @@
 -- What a run does with the store of its lane, turn by turn: also where device calls fail, and wherever the machine stops.
-use Rattle.std.specs.Prelude.{◌≡◌, ◌≤◌, ◌++◌, ◌⊎◌, ℕ, Bool, List, [], ◌∷◌, length, map, IsSome, None, Ok}
+use Rattle.std.specs.Prelude.{◌≡◌, ◌≢◌, ◌≤◌, ◌++◌, ◌⊎◌, ℕ, Bool, List, [], ◌∷◌, length, map, IsSome, None, Ok}
 use Rattle.std.specs.List.{AllByRecursion, flat_map}
 use Rattle.lsv_base.specs.Time.{nanos_of}
 use Rattle.lsv_defs.specs.Causes.{HasRisen}
@@ -20,9 +20,12 @@ use Rattle.lsv_machine.specs.Recovery.{Outside, Ran, Recovers, Story, Turn, all_
 use Rattle.lsv_machine.specs.Starts.{ReadsAs}
 use Rattle.lsv_machine.specs.Turns.{Happened, Happened.Begins}
 use Rattle.lsv_keeper.specs.Causes.{AnyBringsLine, AnyIsOf, CountRose, IsDeviceFault}
+use Rattle.lsv_keeper.specs.Opening.{IsStoreFault}
 use Rattle.lsv_keeper.specs.Reading.{reading_of}
 use Rattle.lsv_keeper.specs.Syncs.{Spares}
 use Rattle.lsv_keeper.specs.Value.{event_line}
+use Rattle.lsv_keeper.specs.declared.fault.StoreFault.{StoreFault}
+use Rattle.lsv_keeper.specs.declared.fault.StoreFault.TheVariants as faults
 use Rattle.lsv_turn.specs.Turns.{LaneTurn}
 
 -- ---- What is asked for
@@ -38,6 +41,21 @@ IsFresh lane lanes disk = (last : ℕ) → judged lane lanes (entry_at lane disk
 -- a device call on a file of the owner failed
 abbrev pub OwnerFailed : Owner → (old new : DiskView) → Type 0
 OwnerFailed o old new = (file : FileId) × (file.owner ≡ o) × HasRisen (old.faults file) (new.faults file)
+
+-- ---- A store that isn't opened
+
+-- why the store of a lane wasn't opened, though memory sufficed: a call on a file of its owner failed, or the disk reads as the fault says
+pub record HasStoreCause (disk_tells : Type 0) (lane lanes : ℕ) (found left : DiskView) (fault : StoreFault) : Type 0 where
+  pub memory : fault ≢ faults.NoMem
+  pub is : disk_tells → IsStoreFault lane lanes found.reads fault
+  pub failed : (o : Owner) → fault ≡ faults.Device o → OwnerFailed o found left
+
+-- how a run ends whose store isn't opened: by the fault as such ends name it, or out of memory
+abbrev pub end_of_fault : {E : Type 0} → (StoreFault → E) → (no_mem : E) → StoreFault → E
+end_of_fault store no_mem faults.NoMem = no_mem
+end_of_fault store no_mem (faults.Device o) = store (faults.Device o)
+end_of_fault store no_mem (faults.Damaged file) = store (faults.Damaged file)
+end_of_fault store no_mem (faults.LanesDiffer kept asked) = store (faults.LanesDiffer kept asked)
 
 -- ---- Turns
 

@@ -12,11 +12,11 @@ ghost use Rattle.lsv_lane.specs.Store.{AreAnswered, AreTimed, IsFresh, KeepsStor
 ghost use Rattle.lsv_keeper.specs.declared.fault.StoreFault.TheVariants as faults;
 
 use crate::Bay;
-use lsv_base::{Bytes, Clock, List, NoMem, TimeSpec};
+use lsv_base::{Clock, NoMem, TimeSpec};
 use lsv_disk::Disk;
-use lsv_hook::{Formatter, LineWriter};
-use lsv_keeper::{Keeper, StoreFault};
-use lsv_mask::{Prompt, Search};
+use lsv_hook::LineWriter;
+use lsv_keeper::{Keeper, LaneId, Policy, StoreFault};
+use lsv_mask::Search;
 use lsv_queue::Gap;
 use lsv_session::{Job, Reply};
 use lsv_turn::{Lane, Tape};
@@ -64,42 +64,29 @@ pub struct Unopened<D, C, G> {
 }
 
 impl<D: Disk, C: Clock, G: Tape, F: LineWriter + Drop, H: Search + Drop> StoreLane<D, C, G, F, H> {
-    /// Opens the store of a lane of this many, at most eight. If it can't be opened the bay is given back, with the fault of
+    /// Opens the store of a lane, one of at most eight. If it can't be opened the bay is given back, with the fault of
     /// `Keeper::open`; the next run may begin with its disk. An entry of the number file that was there is there still.
     pub fn open(
         alloc: Global,
         bay: Bay<D, C, G>,
-        lane: u32,
-        lanes: u32,
-        formatter: Formatter<F>,
-        log_exit: bool,
-        texts: List<Bytes>,
-        prompt: Prompt<H>,
+        lane: LaneId,
+        policy: Policy<F, H>,
     ) -> Result<Self, Unopened<D, C, G>>
-        requires lane { lane < lanes }
-        requires lanes { lanes ≤ 8 }
-        requires fresh { D.tells → IsFresh lane lanes (D.view bay.disk) }
-        ensures made { IfOk result (λ l. ⟦<StoreLane<D, C, G, F, H> as Lane>⟧.made_by (record { set = lane_settings lane lanes formatter.kind log_exit; texts = texts; disk = bay.disk; tape = bay.tape }) l []) }
-        ensures fault { D.tells → IfErr result (λ e. IsStoreFault lane lanes (D.view bay.disk).reads e.fault) }
+        requires lane { lane.number < lane.of }
+        requires lanes { lane.of ≤ 8 }
+        requires fresh { D.tells → IsFresh lane.number lane.of (D.view bay.disk) }
+        ensures made { IfOk result (λ l. ⟦<StoreLane<D, C, G, F, H> as Lane>⟧.made_by (record { set = lane_settings lane.number lane.of policy.formatter.kind policy.log_exit; texts = policy.texts; disk = bay.disk; tape = bay.tape }) l []) }
+        ensures fault { D.tells → IfErr result (λ e. IsStoreFault lane.number lane.of (D.view bay.disk).reads e.fault) }
         ensures cause { (o : Owner) → IfErr result (λ e. e.fault ≡ faults.Device o → OwnerFailed o (D.view bay.disk) (D.view e.bay.disk)) }
-        ensures store { D.tells → IfErr result (λ e. KeepsStore ⊥ (lane_settings lane lanes formatter.kind log_exit) texts (record { found = D.view bay.disk; left = D.view e.bay.disk }) []) }
-        ensures fresh { D.tells → IfErr result (λ e. IsFresh lane lanes (D.view e.bay.disk)) }
-        ensures entry { D.tells → entry_at lane (D.view bay.disk).reads ≢ None → IfErr result (λ e. KeepsEntry lane (D.view bay.disk) (D.view e.bay.disk)) }
+        ensures store { D.tells → IfErr result (λ e. KeepsStore ⊥ (lane_settings lane.number lane.of policy.formatter.kind policy.log_exit) policy.texts (record { found = D.view bay.disk; left = D.view e.bay.disk }) []) }
+        ensures fresh { D.tells → IfErr result (λ e. IsFresh lane.number lane.of (D.view e.bay.disk)) }
+        ensures entry { D.tells → entry_at lane.number (D.view bay.disk).reads ≢ None → IfErr result (λ e. KeepsEntry lane.number (D.view bay.disk) (D.view e.bay.disk)) }
         ensures places { D.tells → IfErr result (λ e. (D.view e.bay.disk).places ≡ (D.view bay.disk).places) }
         ensures clock { IfErr result (λ e. e.bay.clock ≡ bay.clock) }
         ensures tape { IfErr result (λ e. e.bay.tape ≡ bay.tape) }
     {
         let mut bay = bay;
-        match Keeper::open(
-            alloc,
-            &mut bay.disk,
-            lane,
-            lanes,
-            formatter,
-            log_exit,
-            texts,
-            prompt,
-        ) {
+        match Keeper::open(alloc, &mut bay.disk, lane, policy) {
             Ok(keeper) => Ok(StoreLane { keeper, bay }),
             Err(fault) => Err(Unopened { bay, fault }),
         }

@@ -14,7 +14,8 @@ use Rattle.lsv_once.specs.Once.{IsOpened, RunsOnce}
 use Rattle.lsv_once.specs.Course.{EndsFor, IsGone, Leaves, Course, OnceTurn, once_conn, replies_in, turn_of, turns_in, was_shut}
 use Rattle.lsv_once.specs.World.{World, placed}
 use Rattle.lsv_once.proofs.SilenceLemmas.{gone_silent}
-use Rattle.lsv_once.proofs.StoreLemmas.{keeps_less, keeps_placed}
+use Rattle.lsv_lane.proofs.Conforming.{keeps_less}
+use Rattle.lsv_once.proofs.StoreLemmas.{keeps_placed}
 
 leaves_either : (shut : Bool) (leaving : List OnceTurn) → Leaves shut leaving → (leaving ≡ []) ⊎ IsGone leaving
 leaves_either true leaving none = inl none

@@ -3,27 +3,22 @@ use Rattle.std.proofs.Common.{◌≡◌, ◌≢◌, ◌⊎◌, inl, inr, [], Lis
 use Rattle.lsv_disk.specs.View.{DiskView, Places}
 use Rattle.lsv_disk.specs.declared.file.Owner.{Owner}
 use Rattle.lsv_machine.specs.Machine.{Settings}
-use Rattle.lsv_machine.specs.Recovery.{Outside}
 use Rattle.lsv_seq.specs.Drawn.{entry_at}
 use Rattle.lsv_keeper.specs.Opening.{IsStoreFault, KeepsEntry}
 use Rattle.lsv_keeper.specs.declared.fault.StoreFault.{StoreFault}
 use Rattle.lsv_keeper.specs.declared.fault.StoreFault.TheVariants as faults
 use Rattle.lsv_turn.specs.Turns.{LaneTurn, TapeTurn}
-use Rattle.lsv_lane.specs.Store.{KeepsStore, OwnerFailed}
+use Rattle.lsv_lane.specs.Store.{KeepsStore, OwnerFailed, end_of_fault}
+use Rattle.lsv_lane.proofs.Conforming.{keeps_less}
 use Rattle.lsv_once.specs.declared.once.OnceEnd.{OnceEnd}
 use Rattle.lsv_once.specs.declared.once.OnceEnd.TheVariants.{Served, Store, NoMem}
 use Rattle.lsv_once.specs.Causes.{HasOnceCause}
 use Rattle.lsv_once.specs.Course.{Course, EndsFor, PutsFor}
-use Rattle.lsv_once.specs.InnerRun.{end_of_fault}
 use Rattle.lsv_once.specs.Once.{IsOpened, RunsOnce}
 use Rattle.lsv_once.specs.World.{World, placed}
 use Rattle.lsv_once.proofs.ReadLemmas.{hello}
 
 -- ---- What was kept of a store
-
--- what is so of a store that was opened, is so under a narrower condition
-pub keeps_less : (opened less : Type 0) (set : Settings) (texts : List (List ℕ)) (o : Outside) (turns : List LaneTurn) → (less → opened) → KeepsStore opened set texts o turns → KeepsStore less set texts o turns
-keeps_less opened less set texts o turns f k = record { story = k.story; are = k.are; conforms = λ x. k.conforms (f x); recovers = k.recovers; spared = k.spared }
 
 -- a disk that has its places already
 placed_same : (disk left : DiskView) → left.places ≡ disk.places → disk ≡ placed disk left
@@ -91,7 +86,7 @@ runs_nothing set texts old disk tape end n same places entry keeps = record {
     unopened (inl (fault, e)) o = subst (λ (s : OnceEnd). IsOpened s none) e o
     unopened (inr e) o = subst (λ (s : OnceEnd). IsOpened s none) e o refl
 
-pub store_nothing : (fault : StoreFault) → Nothing (end_of_fault fault)
+pub store_nothing : (fault : StoreFault) → Nothing (end_of_fault Store NoMem fault)
 store_nothing (faults.Device o) = inl (faults.Device o, refl)
 store_nothing (faults.Damaged file) = inl (faults.Damaged file, refl)
 store_nothing (faults.LanesDiffer kept asked) = inl (faults.LanesDiffer kept asked, refl)
@@ -99,7 +94,7 @@ store_nothing faults.NoMem = inr refl
 
 -- the cause of a store that isn't opened
 pub store_cause : (old : World) (disk : DiskView) (tape : List TapeTurn) (fault : StoreFault) → (old.disk_tells → IsStoreFault 0 1 old.disk.reads fault) → ((o : Owner) → fault ≡ faults.Device o → OwnerFailed o old.disk disk)
-    → HasOnceCause old (with_store old disk tape) (end_of_fault fault)
+    → HasOnceCause old (with_store old disk tape) (end_of_fault Store NoMem fault)
 store_cause old disk tape (faults.Device o) is failed = record { memory = λ e. cc; is = is; failed = failed }
 store_cause old disk tape (faults.Damaged file) is failed = record { memory = λ e. cc; is = is; failed = failed }
 store_cause old disk tape (faults.LanesDiffer kept asked) is failed = record { memory = λ e. cc; is = is; failed = failed }

@@ -12,13 +12,11 @@ use Rattle.lsv_session.specs.Transcript.{AreAllJobs, AreJobs, HasCut, answers}
 use Rattle.lsv_session.specs.declared.job.Body.{Body}
 use Rattle.lsv_session.specs.declared.job.Job.{Job}
 use Rattle.lsv_session.specs.declared.reply.Reply.{Reply}
-use Rattle.lsv_keeper.specs.declared.fault.StoreFault.{StoreFault}
-use Rattle.lsv_keeper.specs.declared.fault.StoreFault.TheVariants as faults
 use Rattle.lsv_turn.specs.Turns.{LaneTurn}
 use Rattle.lsv_once.specs.declared.run.ReadsEnd.{ReadsEnd}
 use Rattle.lsv_once.specs.declared.run.ReadsEnd.TheVariants as ends
 use Rattle.lsv_once.specs.declared.once.OnceEnd.{OnceEnd}
-use Rattle.lsv_once.specs.declared.once.OnceEnd.TheVariants.{Served, ReadFault, WriteFault, Store, NoMem}
+use Rattle.lsv_once.specs.declared.once.OnceEnd.TheVariants.{Served, ReadFault, WriteFault, NoMem}
 use Rattle.lsv_once.specs.Once.{Reads}
 use Rattle.lsv_once.specs.Course.{PutsFor, ShutLast, Course, OnceTurn, TurnsOf, bodies_in, jobs_of, once_conn, replies_in, turn_of, turns_in, was_shut}
 use Rattle.lsv_once.specs.World.{Wires}
@@ -162,10 +160,3 @@ pub record Serves (Made : List LaneTurn → Type 0) (old new : Wires) (end : Onc
   pub puts : old.sink_tells → (bytes : List ℕ) × (new.put ≡ old.put ++ bytes) × PutsFor end course.reads bytes
   pub cause : HasReadsCause old new end
   pub made : Made (map turn_of (turns_in course))
-
--- how a run ends whose store isn't opened
-abbrev pub end_of_fault : StoreFault → OnceEnd
-end_of_fault faults.NoMem = NoMem
-end_of_fault (faults.Device o) = Store (faults.Device o)
-end_of_fault (faults.Damaged file) = Store (faults.Damaged file)
-end_of_fault (faults.LanesDiffer kept asked) = Store (faults.LanesDiffer kept asked)

@@ -2,20 +2,19 @@
 
 ghost use Rattle.std.specs.Prelude.{◌≡◌, []};
 ghost use Rattle.lsv_lane.specs.InnerLane.{Begun};
-ghost use Rattle.lsv_lane.specs.Store.{IsFresh};
+ghost use Rattle.lsv_lane.specs.Store.{IsFresh, end_of_fault};
 ghost use Rattle.lsv_once.specs.Causes.{HasOnceCause};
 ghost use Rattle.lsv_once.specs.Complete.{Completes};
-ghost use Rattle.lsv_once.specs.InnerRun.{end_of_fault};
 ghost use Rattle.lsv_once.specs.Once.{RunsOnce, once_settings};
 ghost use Rattle.lsv_once.specs.World.{world_of};
 
 use crate::run::OnceRun;
-use lsv_base::{Bytes, Clock, List, Sink, Source};
+use lsv_base::{Clock, Sink, Source};
 use lsv_disk::Disk;
-use lsv_hook::{Formatter, LineWriter};
-use lsv_keeper::StoreFault;
+use lsv_hook::LineWriter;
+use lsv_keeper::{LaneId, Policy, StoreFault};
 use lsv_lane::{Bay, StoreLane};
-use lsv_mask::{Prompt, Search};
+use lsv_mask::Search;
 use lsv_turn::{Lane, Tape};
 use std::alloc::Global;
 
@@ -64,8 +63,8 @@ fn serve_lane<
     (run.into_lane().into_bay(), end)
 }
 
-/// Serves one connection, from the source to the sink, over the store of lane 0 of 1, whose disk has its places. Event lines are
-/// by the formatter, those of exits too if they are asked for. What is typed after a prompt that holds one of the texts is masked.
+/// Serves one connection, from the source to the sink, over the store of lane 0 of 1, whose disk has its places. Event lines
+/// and what is masked are as the policy says.
 /// A piece of at most 65,536 bytes is one turn, and the turns are kept on the tape. Nothing else changes the store while it runs.
 /// What the lane worked with is given back, with how the run ended; the next run may begin with its disk.
 pub fn serve_once<
@@ -81,25 +80,23 @@ pub fn serve_once<
     source: &mut S,
     sink: &mut K,
     bay: Bay<D, C, G>,
-    formatter: Formatter<F>,
-    log_exit: bool,
-    texts: List<Bytes>,
-    prompt: Prompt<H>,
+    policy: Policy<F, H>,
 ) -> (Bay<D, C, G>, OnceEnd)
     requires fresh { D.tells → IsFresh 0 1 (D.view bay.disk) }
-    ensures runs { RunsOnce (once_settings formatter.kind log_exit) texts
+    ensures runs { RunsOnce (once_settings policy.formatter.kind policy.log_exit) policy.texts
         (world_of ⟦<S as Source>⟧ ⟦<K as Sink>⟧ ⟦<D as Disk>⟧ ⟦<G as Tape>⟧ source.old sink.old bay.disk bay.tape)
         (world_of ⟦<S as Source>⟧ ⟦<K as Sink>⟧ ⟦<D as Disk>⟧ ⟦<G as Tape>⟧ source.new sink.new result.0.disk result.0.tape) result.1 }
     ensures cause { HasOnceCause
         (world_of ⟦<S as Source>⟧ ⟦<K as Sink>⟧ ⟦<D as Disk>⟧ ⟦<G as Tape>⟧ source.old sink.old bay.disk bay.tape)
         (world_of ⟦<S as Source>⟧ ⟦<K as Sink>⟧ ⟦<D as Disk>⟧ ⟦<G as Tape>⟧ source.new sink.new result.0.disk result.0.tape) result.1 }
-    ensures complete { Completes formatter.kind log_exit texts
+    ensures complete { Completes policy.formatter.kind policy.log_exit policy.texts
         (world_of ⟦<S as Source>⟧ ⟦<K as Sink>⟧ ⟦<D as Disk>⟧ ⟦<G as Tape>⟧ source.old sink.old bay.disk bay.tape)
         (world_of ⟦<S as Source>⟧ ⟦<K as Sink>⟧ ⟦<D as Disk>⟧ ⟦<G as Tape>⟧ source.new sink.new result.0.disk result.0.tape) result.1 }
     ensures places { D.tells → (D.view result.0.disk).places ≡ (D.view bay.disk).places }
     ensures fresh_again { D.tells → IsFresh 0 1 (D.view result.0.disk) }
 {
-    match StoreLane::open(alloc, bay, 0, 1, formatter, log_exit, texts, prompt) {
+    let lane = LaneId { number: 0, of: 1 };
+    match StoreLane::open(alloc, bay, lane, policy) {
         Ok(lane) => serve_lane(alloc, source, sink, lane),
         Err(failed) => {
             let end = refused(failed.fault);
@@ -110,7 +107,7 @@ pub fn serve_once<
 
 /// How a run ends whose store isn't opened.
 fn refused(fault: StoreFault) -> OnceEnd
-    ensures { result ≡ end_of_fault fault }
+    ensures { result ≡ end_of_fault OnceEnd.Store OnceEnd.NoMem fault }
 {
     match fault {
         StoreFault::NoMem => OnceEnd::NoMem,

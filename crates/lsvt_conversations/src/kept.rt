@@ -10,8 +10,8 @@ use anyhow::{Result, anyhow};
 use lsv_base::{Bytes, List, LogNo, TimeSpec};
 use lsv_disk::{FileId, Owner, Part};
 use lsv_hook::{Formatter, SudoLines};
-use lsv_iolog::{LogFault, LogView};
-use lsv_keeper::{Keeper, more_room_changes_nothing};
+use lsv_iolog::{LogView, ViewFault};
+use lsv_keeper::{Keeper, LaneId, Policy, more_room_changes_nothing};
 use lsv_mask::{Prompt, TextSearch};
 use lsv_session::{Job, Reply};
 use lsvt_model::RunSettings;
@@ -32,16 +32,17 @@ pub fn open_keeper(
     if settings.lane >= settings.lanes || settings.lanes > 8 {
         return Err(anyhow!("a lane"));
     }
-    let keeper = Keeper::open(
-        alloc,
-        disk,
-        settings.lane,
-        settings.lanes,
-        Formatter::sudo(),
-        settings.log_exit,
+    let lane = LaneId {
+        number: settings.lane,
+        of: settings.lanes,
+    };
+    let policy = Policy {
+        formatter: Formatter::sudo(),
+        log_exit: settings.log_exit,
         texts,
-        Prompt::new(TextSearch),
-    )?;
+        prompt: Prompt::new(TextSearch),
+    };
+    let keeper = Keeper::open(alloc, disk, lane, policy)?;
     Ok(keeper)
 }
 
@@ -66,7 +67,7 @@ pub fn keeper_turn(
 fn stored_lines(alloc: Global, disk: &mut Unwatched, number: LogNo) -> Result<String> {
     let mut view = match LogView::open(alloc, disk, number) {
         Ok(view) => view,
-        Err(LogFault::Absent) => return Ok(String::new(alloc)),
+        Err(ViewFault::Absent) => return Ok(String::new(alloc)),
         Err(fault) => return Err(fault.into()),
     };
     let body = view.body();

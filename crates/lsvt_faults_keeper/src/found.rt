@@ -5,7 +5,7 @@ use lsv_base::{Bytes, LogNo};
 use lsv_bundle::{Bundle, Shape};
 use lsv_disk::{Disk, Owner, Part};
 use lsv_info::{Exit, Head};
-use lsv_iolog::{LogFault, LogView};
+use lsv_iolog::{LogView, ViewFault};
 use lsv_record::Record;
 use std::alloc::Global;
 
@@ -21,7 +21,7 @@ pub struct Found {
 pub fn found_log<D: Disk>(alloc: Global, disk: &mut D, number: LogNo) -> Result<Option<Found>> {
     let mut view = match LogView::open(alloc, disk, number) {
         Ok(view) => view,
-        Err(LogFault::Absent) => return Ok(None),
+        Err(ViewFault::Absent) => return Ok(None),
         Err(fault) => return Err(fault.into()),
     };
     let count = view.body().count;

@@ -12,7 +12,7 @@ use crate::script::{Script, job_of};
 use anyhow::Result;
 use lsv_base::List;
 use lsv_hook::{Formatter, SudoLines};
-use lsv_keeper::{Keeper, StoreFault, more_room_changes_nothing};
+use lsv_keeper::{Keeper, LaneId, Policy, StoreFault, more_room_changes_nothing};
 use lsv_mask::{Prompt, TextSearch};
 use lsv_session::{Job, Reply};
 use lsvt_doubles::{FILLS, Hostile, Plan};
@@ -42,9 +42,13 @@ pub struct Run {
 pub fn open_keeper(alloc: Global, disk: &mut Hostile) -> Result<Kept, StoreFault>
     ensures { IfOk result (λ k. IsResting (view_of k)) }
 {
-    let texts = List::new(alloc);
-    let prompt = Prompt::new(TextSearch);
-    Keeper::open(alloc, disk, 0, 1, Formatter::sudo(), true, texts, prompt)
+    let policy = Policy {
+        formatter: Formatter::sudo(),
+        log_exit: true,
+        texts: List::new(alloc),
+        prompt: Prompt::new(TextSearch),
+    };
+    Keeper::open(alloc, disk, LaneId { number: 0, of: 1 }, policy)
 }
 
 /// Opens the store of a disk, and once more where that failed.

@@ -1,13 +1,16 @@
 -- Each record that is read goes on to the first that ends at the point.
-use Rattle.std.proofs.Common.{◌≡◌, ℕ, ◌<◌, List, [], ◌∷◌, ◌++◌, Option, None, Result, Err, sym, ◌∙◌, ap, subst, arith}
+use Rattle.std.proofs.Common.{◌≡◌, ◌⊎◌, inr, ℕ, ◌<◌, List, [], ◌∷◌, ◌++◌, Option, None, Result, Err, sym, ◌∙◌, ap, subst, arith}
 use Rattle.lsv_disk.proofs.Composition.{reads_trans}
 use Rattle.lsv_iolog.specs.Reading.{IsBehind, IsWhole}
-use Rattle.lsv_iolog.specs.declared.fault.LogFault.{LogFault}
+use Rattle.lsv_iolog.specs.Faults.{IsOpenFault, of_view}
 use Rattle.lsv_iolog.specs.declared.fault.LogFault.TheVariants as logs
-use Rattle.lsv_iolog.proofs.Results.{same_log_fault}
+use Rattle.lsv_iolog.specs.declared.fault.ViewFault.{ViewFault}
+use Rattle.lsv_iolog.specs.declared.fault.ViewFault.TheVariants as views
+use Rattle.lsv_iolog.proofs.Results.{given_view, view_damaged, view_disk, view_opens, view_there}
 use Rattle.lsv_iolog.proofs.Scans.{if_none_at, if_some_at, none_there}
 use Rattle.lsv_record.specs.declared.records.Record.{Record}
 use Rattle.lsv_bundle.specs.declared.body.Body.{Body}
+use Rattle.lsv_keeper.proofs.Looking.{err_as}
 use Rattle.lsv_keeper.proofs.Seeing.{Seeing, same_faults, seeing_all, seeing_blameless, seeing_cause, seeing_end, seeing_found, seeing_goes_on, seeing_past, seeing_starts}
 use Rattle.lsv_keeper.proofs.Viewing.{seeing_whole}
 use Rattle.lsv_keeper.proofs.resume.see_through.Goals as goal
@@ -19,9 +22,21 @@ loop-init g c =
 
 pub returns-in_err-r-clause-damaged : goal.returns-in_err-r-clause-damaged
 returns-in_err-r-clause-damaged g c told part is_damaged stored of behind =
-    let fault : c.in_err-r.field-0.0 ≡ logs.Damaged part = same_log_fault c.from_residual.result c.in_err-r.field-0.0 (logs.Damaged part) c.from_residual.ensures.1 is_damaged in
+    let fault : c.in_err-r.field-0.0 ≡ views.Damaged part = view_damaged c.in_err-r.field-0.0 part (given_view c.from_residual.result c.in_err-r.field-0.0 (logs.Damaged part) c.from_residual.ensures.1 is_damaged) in
     seeing_whole g.D.Disk.tells c.args.view.now c.loop.view c.args.mask.now c.loop.mask (g.D.Disk.view c.args.disk.now) (g.D.Disk.view c.loop.disk) c.args.point c.loop.left c.loop.counter part stored told c.loop.invariant of behind
-    (c.in_err-r.ensures.damaged told part (ap (λ (x : LogFault). let y : Result (Option Record) LogFault = Err x in y) fault))
+    (c.in_err-r.ensures.damaged told part (ap (λ (x : ViewFault). let y : Result (Option Record) ViewFault = Err x in y) fault))
+
+pub returns-in_err-r-clause-none : goal.returns-in_err-r-clause-none
+returns-in_err-r-clause-none g c told is stored of behind =
+    absurd (subst IsOpenFault (given_view c.from_residual.result c.in_err-r.field-0.0 (logs.NoPoint c.args.point) c.from_residual.ensures.1 is) (view_opens c.in_err-r.field-0.0))
+
+pub returns-in_err-r-clause-fault : goal.returns-in_err-r-clause-fault
+returns-in_err-r-clause-fault g c =
+    err_as c.from_residual.result (of_view c.in_err-r.field-0.0) (λ x. (x ≡ logs.NoPoint c.args.point) ⊎ IsOpenFault x) c.from_residual.ensures.1 (inr (view_opens c.in_err-r.field-0.0))
+
+pub returns-in_err-r-clause-present : goal.returns-in_err-r-clause-present
+returns-in_err-r-clause-present g c is =
+    view_there c.in_err-r.field-0.0 c.in_err-r.ensures.fault (given_view c.from_residual.result c.in_err-r.field-0.0 logs.Absent c.from_residual.ensures.1 is)
 
 pub returns-in_err-r-clause-reads : goal.returns-in_err-r-clause-reads
 returns-in_err-r-clause-reads g c told = reads_trans (g.D.Disk.view c.args.disk.now) (g.D.Disk.view c.loop.disk) (g.D.Disk.view c.next.new.disk) (c.loop.invariant.reads told) (c.next.ensures.reads told)
@@ -29,7 +44,7 @@ returns-in_err-r-clause-reads g c told = reads_trans (g.D.Disk.view c.args.disk.
 pub returns-in_err-r-clause-cause : goal.returns-in_err-r-clause-cause
 returns-in_err-r-clause-cause g c =
     seeing_cause g.D.Disk.tells c.args.view.now c.loop.view c.args.mask.now c.loop.mask (g.D.Disk.view c.args.disk.now) (g.D.Disk.view c.loop.disk) (g.D.Disk.view c.next.new.disk) c.args.point c.loop.left c.loop.counter _ _ c.loop.invariant
-    (λ failed. ap (λ (x : LogFault). let y : Result (Option Record) LogFault = Err x in y) (same_log_fault c.from_residual.result c.in_err-r.field-0.0 logs.Disk c.from_residual.ensures.1 failed)) c.in_err-r.ensures.cause
+    (λ failed. ap (λ (x : ViewFault). let y : Result (Option Record) ViewFault = Err x in y) (view_disk c.in_err-r.field-0.0 (given_view c.from_residual.result c.in_err-r.field-0.0 logs.Disk c.from_residual.ensures.1 failed))) c.in_err-r.ensures.cause
 
 pub returns-then-delay-left-clause-seen : goal.returns-then-delay-left-clause-seen
 returns-then-delay-left-clause-seen g c told texts stored fresh of behind =

@@ -12,11 +12,14 @@ use Rattle.std.specs.Prelude.{Result, Err}
 use Rattle.lsv_request.specs.declared.refusal.Refusal.{Refusal}
 use Rattle.lsv_keeper.proofs.keeper.Keeper.accept_log.Goals as goal
 
-pub leave-requires-clause-stands : goal.leave-requires-clause-stands
-leave-requires-clause-stands g c told = let (m, at) = c.requires.stands told in let x = c.in-Err.ensures.stopped told m at in (x.left, x.represents)
+abbrev err : {T : Type 0} → Refusal → Result T Refusal
+err why = Err why
 
-pub leave-requires-clause-room : goal.leave-requires-clause-room
-leave-requires-clause-room g c = room_in_any (view_of c.args.self.now) (view_of c.open_log.new.self) ((sessions_of (view_of c.open_log.new.self)).states c.args.conn) Dead c.in-Err.ensures.room c.requires.room
+pub enter_state-requires-clause-stands : goal.enter_state-requires-clause-stands
+enter_state-requires-clause-stands g c told = let (m, at) = c.requires.stands told in let x = c.in-Err.ensures.stopped told m at in (x.left, x.represents)
+
+pub enter_state-requires-clause-room : goal.enter_state-requires-clause-room
+enter_state-requires-clause-room g c = room_in_any (view_of c.args.self.now) (view_of c.open_log.new.self) ((sessions_of (view_of c.open_log.new.self)).states c.args.conn) Dead c.in-Err.ensures.room c.requires.room
 
 pub returns-in-Ok-clause-row : goal.returns-in-Ok-clause-row
 returns-in-Ok-clause-row g c told m job at e a =
@@ -25,32 +28,29 @@ returns-in-Ok-clause-row g c told m job at e a =
     (record { reads_itself = g.met.D.Disk.reads_itself told d0; is_now = g.met.D.Disk.is_now told d0; only_now = g.met.D.Disk.only_now told d0 })
     (ap is_running (at.states c.args.conn) ∙ c.requires.free) (c.in-Ok.ensures.begun told m at) job e a
 
-pub returns-in-Err-clause-keeps : goal.returns-in-Err-clause-keeps
-returns-in-Err-clause-keeps g c = keeps_then (view_of c.args.self.now) (view_of c.open_log.new.self) (view_of c.leave.new.self) c.open_log.ensures.keeps c.in-Err.ensures.room c.leave.ensures.keeps c.leave.ensures.shrinks
+pub returns-in-Err-clause-frame : goal.returns-in-Err-clause-frame
+returns-in-Err-clause-frame g c = record {
+  keeps = keeps_then (view_of c.args.self.now) (view_of c.open_log.new.self) (view_of c.enter_state.new.self) c.open_log.ensures.frame.keeps c.in-Err.ensures.room c.enter_state.ensures.frame.keeps c.enter_state.ensures.enters.shrinks;
+  syncs = λ told m at.
+      let x = c.in-Err.ensures.stopped told m at in
+      followed NoLog (view_of c.args.self.now) (view_of c.open_log.new.self) (view_of c.enter_state.new.self) (g.D.Disk.view c.args.disk.now) (g.D.Disk.view c.open_log.new.disk) (g.D.Disk.view c.enter_state.new.disk)
+      (c.open_log.ensures.frame.syncs told m at) (c.enter_state.ensures.frame.syncs told x.left x.represents);
+  does = then_quiet (λ e. ap (λ (w : Refusal). err w) (refused_is c.in-Err.why e)) c.in-Err.ensures.frame.does c.enter_state.ensures.frame.does;
+}
 
 pub returns-in-Err-clause-row : goal.returns-in-Err-clause-row
 returns-in-Err-clause-row g c told m job at e a =
     let d0 = c.args.disk.now in
     let d1 = c.open_log.new.disk in
     let x = c.in-Err.ensures.stopped told m at in
-    stopped_at (view_of c.args.self.now) (view_of c.open_log.new.self) (view_of c.leave.new.self) (g.D.Disk.view d0) (g.D.Disk.view d1) (g.D.Disk.view c.leave.new.disk) c.args.now c.args.conn c.args.head m c.in-Err.why
+    stopped_at (view_of c.args.self.now) (view_of c.open_log.new.self) (view_of c.enter_state.new.self) (g.D.Disk.view d0) (g.D.Disk.view d1) (g.D.Disk.view c.enter_state.new.disk) c.args.now c.args.conn c.args.head m c.in-Err.why
     (record { reads_itself = g.met.D.Disk.reads_itself told d0; is_now = g.met.D.Disk.is_now told d0; only_now = g.met.D.Disk.only_now told d0 })
     (record { reads_itself = g.met.D.Disk.reads_itself told d1; is_now = g.met.D.Disk.is_now told d1; only_now = g.met.D.Disk.only_now told d1 })
-    c.open_log.ensures.keeps (ap is_running (at.states c.args.conn) ∙ c.requires.free) x (c.leave.ensures.left told x.left x.represents) job e a
+    c.open_log.ensures.frame.keeps (ap is_running (at.states c.args.conn) ∙ c.requires.free) x (c.enter_state.ensures.left told x.left x.represents) job e a
 
-pub returns-in-Err-clause-syncs : goal.returns-in-Err-clause-syncs
-returns-in-Err-clause-syncs g c told m at =
-    let x = c.in-Err.ensures.stopped told m at in
-    followed NoLog (view_of c.args.self.now) (view_of c.open_log.new.self) (view_of c.leave.new.self) (g.D.Disk.view c.args.disk.now) (g.D.Disk.view c.open_log.new.disk) (g.D.Disk.view c.leave.new.disk)
-    (c.open_log.ensures.syncs told m at) (c.leave.ensures.syncs told x.left x.represents)
-
--- ---- Over every disk
-
-abbrev err : {T : Type 0} → Refusal → Result T Refusal
-err why = Err why
-
-pub returns-in-Ok-clause-does : goal.returns-in-Ok-clause-does
-returns-in-Ok-clause-does g c = does_as (λ e. absurd (cc)) c.in-Ok.ensures.does
-
-pub returns-in-Err-clause-does : goal.returns-in-Err-clause-does
-returns-in-Err-clause-does g c = then_quiet (λ e. ap (λ (w : Refusal). err w) (refused_is c.in-Err.why e)) c.in-Err.ensures.does c.leave.ensures.does
+pub returns-in-Ok-clause-frame : goal.returns-in-Ok-clause-frame
+returns-in-Ok-clause-frame g c = record {
+  keeps = c.open_log.ensures.frame.keeps;
+  syncs = c.open_log.ensures.frame.syncs;
+  does = does_as (λ e. absurd (cc)) c.in-Ok.ensures.frame.does;
+}

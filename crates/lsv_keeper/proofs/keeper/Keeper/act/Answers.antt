@@ -1,44 +1,66 @@
 -- What comes of a connection that wasn't shut, by its kind: a message alone may restart a log.
-use Rattle.std.proofs.Common.{sym, subst, ◌≡◌, ◌∙◌}
-use Rattle.lsv_session.specs.declared.job.Body.{Body}
-use Rattle.lsv_keeper.specs.Syncing.{Syncs}
-use Rattle.lsv_keeper.specs.Syncs.{Restarts}
-use Rattle.lsv_keeper.specs.Views.{view_of}
-use Rattle.lsv_keeper.proofs.Syncing.{of_none}
-use Rattle.lsv_keeper.proofs.Causes.{does_needs, quiet_told, refused_is}
-use Rattle.lsv_machine.proofs.Shapes.{fault_not}
+use Rattle.std.proofs.Common.{◌≡◌, ◌∙◌, ap, subst, sym}
+use Rattle.std.specs.Prelude.{false}
+use Rattle.lsv_request.specs.declared.refusal.Refusal.{Refusal}
 use Rattle.lsv_request.specs.declared.refusal.Refusal.TheVariants.{DeviceFault}
-use Rattle.lsv_keeper.specs.declared.told.Told.TheVariants as told
+use Rattle.lsv_session.specs.declared.job.Body.{Body}
+use Rattle.lsv_machine.specs.Answers.{refusal}
+use Rattle.lsv_machine.specs.History.{is_look}
+use Rattle.lsv_machine.specs.Machine.{is_dead}
+use Rattle.lsv_machine.specs.Work as work
+use Rattle.lsv_machine.proofs.Shapes.{fault_not}
+use Rattle.lsv_keeper.specs.Jobs.{DoesJob}
+use Rattle.lsv_keeper.specs.Rows.{IsTold}
+use Rattle.lsv_keeper.specs.Syncs.{Restarts}
+use Rattle.lsv_keeper.specs.Value.{settings_of}
+use Rattle.lsv_keeper.specs.Views.{view_of}
+use Rattle.lsv_keeper.specs.declared.told.Told.TheVariants as told_variants
+use Rattle.lsv_keeper.proofs.Causes.{quiet_told, refused_is}
+use Rattle.lsv_keeper.proofs.Judging.{bytes_refused, fault_fair}
 use Rattle.lsv_keeper.proofs.SparingLemmas.{spares_none}
-use Rattle.lsv_keeper.specs.Causes.{BringsLine}
+use Rattle.lsv_keeper.proofs.Syncing.{of_none}
 use Rattle.lsv_keeper.proofs.keeper.Keeper.act.Goals as goal
 
-pub returns-in-Msg-clause-syncs : goal.returns-in-Msg-clause-syncs
-returns-in-Msg-clause-syncs g c told m at =
-    subst (λ (b : Body). Syncs (Restarts b) (view_of c.args.self.now) (view_of c.hear.new.self) (g.D.Disk.view c.args.disk.now) (g.D.Disk.view c.hear.new.disk)) (sym c.in-Msg.is) (c.hear.ensures.syncs told m at)
+pub returns-in-Msg : goal.returns-in-Msg
+returns-in-Msg g c = record {
+  done =
+      subst (λ (b : Body). DoesJob g.D.Disk.tells c.args.now c.args.conn b c.hear.result (view_of c.args.self.now) (view_of c.hear.new.self) (g.D.Disk.view c.args.disk.now) (g.D.Disk.view c.hear.new.disk)) (sym c.in-Msg.is) c.hear.ensures.done;
+}
 
-pub returns-in-Bad-clause-syncs : goal.returns-in-Bad-clause-syncs
-returns-in-Bad-clause-syncs g c told m at = of_none (Restarts c.args.body) (view_of c.args.self.now) (view_of c.refuse.new.self) (g.D.Disk.view c.args.disk.now) (g.D.Disk.view c.refuse.new.disk) (c.refuse.ensures.syncs told m at)
+pub returns-in-Bad : goal.returns-in-Bad
+returns-in-Bad g c = record {
+  done =
+      let v = view_of c.args.self.now in
+      let v' = view_of c.refuse.new.self in
+      let old = g.D.Disk.view c.args.disk.now in
+      let new = g.D.Disk.view c.refuse.new.disk in
+      record {
+        keeps = c.refuse.ensures.frame.keeps;
+        told = subst IsTold (sym c.refuse.ensures.told) tt;
+        row = λ told m job at conn is.
+            let living : is_dead (m.states c.args.conn) ≡ false = ap is_dead (at.states c.args.conn) ∙ c.requires.alive in
+            c.refuse.ensures.row told m job c.args.now at conn living
+            (ap (λ (why : Refusal). is_look (refusal c.args.conn why)) c.fault_refusal.ensures ∙ fault_fair c.in-Bad.fault c.args.conn)
+            (λ n. bytes_refused (settings_of v) c.args.now job c.in-Bad.fault m c.args.conn conn (is ∙ c.in-Bad.is) living n ∙ ap (λ (why : Refusal). work.refused c.args.conn why m) (sym c.fault_refusal.ensures));
+        syncs = λ told m at. of_none (Restarts c.args.body) v v' old new (c.refuse.ensures.frame.syncs told m at);
+        spared = λ told m at. spares_none v v' old new m at (c.refuse.ensures.frame.syncs told m at);
+        does = quiet_told (λ e. fault_not c.in-Bad.fault (sym c.fault_refusal.ensures ∙ refused_is c.fault_refusal.result (sym c.refuse.ensures.told ∙ e))) c.refuse.ensures.frame.does;
+      };
+}
 
-pub returns-in-Gone-clause-syncs : goal.returns-in-Gone-clause-syncs
-returns-in-Gone-clause-syncs g c told m at = of_none (Restarts c.args.body) (view_of c.args.self.now) (view_of c.farewell.new.self) (g.D.Disk.view c.args.disk.now) (g.D.Disk.view c.farewell.new.disk) (c.farewell.ensures.syncs told m at)
-
--- ---- Over every disk
-
-pub returns-in-Bad-clause-does : goal.returns-in-Bad-clause-does
-returns-in-Bad-clause-does g c =
-    quiet_told (λ e. fault_not c.in-Bad.fault (sym c.fault_refusal.ensures ∙ refused_is c.fault_refusal.result (sym c.refuse.ensures.told ∙ e))) c.refuse.ensures.does
-
-pub returns-in-Gone-clause-does : goal.returns-in-Gone-clause-does
-returns-in-Gone-clause-does g c = quiet_told (λ e. let f : told.Farewell ≡ told.Refused DeviceFault = sym c.farewell.ensures.told ∙ e in cc) c.farewell.ensures.does
-
-pub returns-in-Msg-clause-does : goal.returns-in-Msg-clause-does
-returns-in-Msg-clause-does g c = does_needs (λ brings. subst (BringsLine c.args.self.now.log_exit) (sym c.in-Msg.is) brings) c.hear.ensures.does
-
--- ---- Damaged logs
-
-pub returns-in-Bad-clause-spared : goal.returns-in-Bad-clause-spared
-returns-in-Bad-clause-spared g c told m at = spares_none (view_of c.args.self.now) (view_of c.refuse.new.self) (g.D.Disk.view c.args.disk.now) (g.D.Disk.view c.refuse.new.disk) m at (c.refuse.ensures.syncs told m at)
-
-pub returns-in-Gone-clause-spared : goal.returns-in-Gone-clause-spared
-returns-in-Gone-clause-spared g c told m at = spares_none (view_of c.args.self.now) (view_of c.farewell.new.self) (g.D.Disk.view c.args.disk.now) (g.D.Disk.view c.farewell.new.disk) m at (c.farewell.ensures.syncs told m at)
+pub returns-in-Gone : goal.returns-in-Gone
+returns-in-Gone g c = record {
+  done =
+      let v = view_of c.args.self.now in
+      let v' = view_of c.farewell.new.self in
+      let old = g.D.Disk.view c.args.disk.now in
+      let new = g.D.Disk.view c.farewell.new.disk in
+      record {
+        keeps = c.farewell.ensures.frame.keeps;
+        told = subst IsTold (sym c.farewell.ensures.told) tt;
+        row = λ told m job at conn is. c.farewell.ensures.row told m job c.args.now at conn (is ∙ c.in-Gone.is) (ap is_dead (at.states c.args.conn) ∙ c.requires.alive);
+        syncs = λ told m at. of_none (Restarts c.args.body) v v' old new (c.farewell.ensures.frame.syncs told m at);
+        spared = λ told m at. spares_none v v' old new m at (c.farewell.ensures.frame.syncs told m at);
+        does = quiet_told (λ e. let f : told_variants.Farewell ≡ told_variants.Refused DeviceFault = sym c.farewell.ensures.told ∙ e in cc) c.farewell.ensures.frame.does;
+      };
+}

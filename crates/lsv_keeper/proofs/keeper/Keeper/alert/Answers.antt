@@ -1,5 +1,5 @@
 -- In a session an alert is an event alone; else the connection is one that gave an alert.
-use Rattle.std.proofs.Common.{◌≡◌, refl, sym, ◌∙◌, ap, subst}
+use Rattle.std.proofs.Common.{ap, refl, subst, sym, ◌∙◌, ◌≡◌}
 use Rattle.lsv_event.specs.Lines.{line_of}
 use Rattle.lsv_event.specs.declared.event.Event.TheVariants as event
 use Rattle.lsv_event.specs.declared.event.Peer.{Peer}
@@ -13,6 +13,10 @@ use Rattle.lsv_keeper.specs.Value.{KeeperView, settings_of}
 use Rattle.lsv_keeper.specs.Views.{view_of}
 use Rattle.lsv_keeper.proofs.Asking.{alert_timed}
 use Rattle.lsv_keeper.proofs.EventKinds.{alert_event, enters_none}
+use Rattle.lsv_keeper.proofs.SparingLemmas.{spares_none}
+use Rattle.lsv_keeper.proofs.Syncing.{of_none}
+use Rattle.lsv_keeper.specs.Syncing.{GoesOnWith}
+use Rattle.lsv_keeper.proofs.Causes.{does_needs}
 use Rattle.lsv_keeper.proofs.keeper.Keeper.alert.Goals as goal
 
 pub tell-requires-clause-timed : goal.tell-requires-clause-timed
@@ -27,18 +31,25 @@ tell-requires-clause-stands g c told = c.requires.stands told
 pub tell-requires-clause-room : goal.tell-requires-clause-room
 tell-requires-clause-room g c = c.requires.room
 
-pub returns-clause-keeps : goal.returns-clause-keeps
-returns-clause-keeps g c = c.tell.ensures.keeps
-
-pub returns-clause-told : goal.returns-clause-told
-returns-clause-told g c = c.tell.ensures.told
-
-pub returns-clause-row : goal.returns-clause-row
-returns-clause-row g c told m job at e a =
-    let v : KeeperView = view_of c.args.self.now in
-    let its : c.unless_running.result ≡ unless_running (m.states c.args.conn) (next.Enters Alerted) =
-    c.unless_running.ensures ∙ ap (λ (s : ConnState). unless_running s (next.Enters Alerted)) (c.requires.state ∙ sym (at.states c.args.conn)) in
-    c.tell.ensures.row told m job c.args.now (request.Alert c.args.report) at e a
-    (subst (λ (x : Next). IsEventOf (settings_of v) c.args.now c.args.conn (m.states c.args.conn) (request.Alert c.args.report) (line_of v.kind (event.Alert c.args.now c.peer_of.result c.args.report.reason (record { submit = c.args.report.time; info = c.args.report.info }))) x m) (sym its)
-    (subst (λ (p : Peer). IsEventOf (settings_of v) c.args.now c.args.conn (m.states c.args.conn) (request.Alert c.args.report) (line_of v.kind (event.Alert c.args.now p c.args.report.reason (record { submit = c.args.report.time; info = c.args.report.info }))) (unless_running (m.states c.args.conn) (next.Enters Alerted)) m) (sym c.peer_of.ensures)
-    (alert_event v c.args.now c.args.conn (m.states c.args.conn) c.args.report m)))
+pub returns : goal.returns
+returns g c = record {
+  done =
+      let v' = view_of c.tell.new.self in
+      let old = g.D.Disk.view c.args.disk.now in
+      let new = g.D.Disk.view c.tell.new.disk in
+      record {
+        keeps = c.tell.ensures.frame.keeps;
+        told = c.tell.ensures.told;
+        row = λ told m job at e a.
+            let v : KeeperView = view_of c.args.self.now in
+            let its : c.unless_running.result ≡ unless_running (m.states c.args.conn) (next.Enters Alerted) =
+            c.unless_running.ensures ∙ ap (λ (s : ConnState). unless_running s (next.Enters Alerted)) (c.requires.state ∙ sym (at.states c.args.conn)) in
+            c.tell.ensures.row told m job c.args.now (request.Alert c.args.report) at e a
+            (subst (λ (x : Next). IsEventOf (settings_of v) c.args.now c.args.conn (m.states c.args.conn) (request.Alert c.args.report) (line_of v.kind (event.Alert c.args.now c.peer_of.result c.args.report.reason (record { submit = c.args.report.time; info = c.args.report.info }))) x m) (sym its)
+            (subst (λ (p : Peer). IsEventOf (settings_of v) c.args.now c.args.conn (m.states c.args.conn) (request.Alert c.args.report) (line_of v.kind (event.Alert c.args.now p c.args.report.reason (record { submit = c.args.report.time; info = c.args.report.info }))) (unless_running (m.states c.args.conn) (next.Enters Alerted)) m) (sym c.peer_of.ensures)
+            (alert_event v c.args.now c.args.conn (m.states c.args.conn) c.args.report m)));
+        syncs = λ told m at. of_none (GoesOnWith (request.Alert c.args.report)) (view_of c.args.self.now) v' old new (c.tell.ensures.frame.syncs told m at);
+        spared = λ told m at. spares_none (view_of c.args.self.now) v' old new m at (c.tell.ensures.frame.syncs told m at);
+        does = does_needs (λ u. refl) c.tell.ensures.frame.does;
+      };
+}

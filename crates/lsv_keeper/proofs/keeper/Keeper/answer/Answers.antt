@@ -1,21 +1,29 @@
 -- A connection that was shut opens no log.
+use Rattle.std.proofs.Common.{◌≡◌, ◌∙◌, ap, subst, sym}
+use Rattle.lsv_request.specs.declared.refusal.Refusal.TheVariants.{DeviceFault}
+use Rattle.lsv_machine.specs.Machine.{is_dead}
+use Rattle.lsv_keeper.specs.Rows.{IsTold}
 use Rattle.lsv_keeper.specs.Syncs.{Restarts}
 use Rattle.lsv_keeper.specs.Views.{view_of}
-use Rattle.lsv_keeper.proofs.Syncing.{of_none}
+use Rattle.lsv_keeper.specs.declared.told.Told.TheVariants as told_variants
 use Rattle.lsv_keeper.proofs.Causes.{quiet_told}
-use Rattle.std.proofs.Common.{◌≡◌, sym, ◌∙◌}
-use Rattle.lsv_request.specs.declared.refusal.Refusal.TheVariants.{DeviceFault}
-use Rattle.lsv_keeper.specs.declared.told.Told.TheVariants as told
 use Rattle.lsv_keeper.proofs.SparingLemmas.{spares_none}
+use Rattle.lsv_keeper.proofs.Syncing.{of_none}
 use Rattle.lsv_keeper.proofs.keeper.Keeper.answer.Goals as goal
 
-pub returns-in-Dead-clause-syncs : goal.returns-in-Dead-clause-syncs
-returns-in-Dead-clause-syncs g c told m at = of_none (Restarts c.args.body) (view_of c.args.self.now) (view_of c.drop_job.new.self) (g.D.Disk.view c.args.disk.now) (g.D.Disk.view c.drop_job.new.disk) (c.drop_job.ensures.syncs told m at)
-
--- ---- Over every disk
-
-pub returns-in-Dead-clause-does : goal.returns-in-Dead-clause-does
-returns-in-Dead-clause-does g c = quiet_told (λ e. let f : told.Nothing ≡ told.Refused DeviceFault = sym c.drop_job.ensures.told ∙ e in cc) c.drop_job.ensures.does
-
-pub returns-in-Dead-clause-spared : goal.returns-in-Dead-clause-spared
-returns-in-Dead-clause-spared g c told m at = spares_none (view_of c.args.self.now) (view_of c.drop_job.new.self) (g.D.Disk.view c.args.disk.now) (g.D.Disk.view c.drop_job.new.disk) m at (c.drop_job.ensures.syncs told m at)
+pub returns-in-Dead : goal.returns-in-Dead
+returns-in-Dead g c = record {
+  done =
+      let v = view_of c.args.self.now in
+      let v' = view_of c.drop_job.new.self in
+      let old = g.D.Disk.view c.args.disk.now in
+      let new = g.D.Disk.view c.drop_job.new.disk in
+      record {
+        keeps = c.drop_job.ensures.frame.keeps;
+        told = subst IsTold (sym c.drop_job.ensures.told) tt;
+        row = λ told m job at conn is. c.drop_job.ensures.row told m job c.args.now at conn is (ap is_dead (at.states c.args.conn ∙ sym c.state-state.ensures ∙ c.in-Dead.is));
+        syncs = λ told m at. of_none (Restarts c.args.body) v v' old new (c.drop_job.ensures.frame.syncs told m at);
+        spared = λ told m at. spares_none v v' old new m at (c.drop_job.ensures.frame.syncs told m at);
+        does = quiet_told (λ e. let f : told_variants.Nothing ≡ told_variants.Refused DeviceFault = sym c.drop_job.ensures.told ∙ e in cc) c.drop_job.ensures.frame.does;
+      };
+}

@@ -9,15 +9,22 @@ use Rattle.lsv_keeper.proofs.keeper.Keeper.answer_job.Goals as goal
 pub returns-clause-answered : goal.returns-clause-answered
 returns-clause-answered g c told m at =
     job_given (view_of c.args.self.now) (view_of c.answer-told.new.self) c.args.now c.args.job c.answer-told.result c.put_replies.ensures.told.0 m c.args.out.now.items c.put_replies.new.out.items
-    (g.D.Disk.view c.args.disk.now) (g.D.Disk.view c.answer-told.new.disk) (c.answer-told.ensures.row told m c.args.job at refl refl) c.put_replies.ensures.told.1 c.put_replies.ensures.told.2
+    (g.D.Disk.view c.args.disk.now) (g.D.Disk.view c.answer-told.new.disk) (c.answer-told.ensures.done.row told m c.args.job at refl refl) c.put_replies.ensures.told.1 c.put_replies.ensures.told.2
 
--- ---- Over every disk
-
-pub returns-clause-does : goal.returns-clause-does
-returns-clause-does g c = does_unfaulted c.answer-told.ensures.does
+pub returns-clause-frame : goal.returns-clause-frame
+returns-clause-frame g c = record {
+  keeps = c.answer-told.ensures.done.keeps;
+  room = c.put_replies.ensures.room;
+  syncs = c.answer-told.ensures.done.syncs;
+  spared = c.answer-told.ensures.done.spared;
+  does = does_unfaulted c.answer-told.ensures.done.does;
+}
 
 pub returns-clause-says : goal.returns-clause-says
 returns-clause-says g c all =
     let t = c.put_replies.ensures.told in
     says_as (λ j. j ≡ c.args.job.conn) (λ j. j ≡ c.args.job.conn) (λ j. TellsFault c.answer-told.result) (λ j. MayAnswer (BringsLine c.args.self.now.log_exit c.args.job.body) (view_of c.args.self.now) (g.D.Disk.view c.args.disk.now) (g.D.Disk.view c.answer-told.new.disk)) c.args.out.now.items c.put_replies.new.out.items (λ j is. is)
-    (λ j is e. c.answer-told.ensures.does.cause all e) (says_told c.args.job.conn c.answer-told.result t.0 c.args.out.now.items c.put_replies.new.out.items t.1 t.2)
+    (λ j is e. c.answer-told.ensures.done.does.cause all e) (says_told c.args.job.conn c.answer-told.result t.0 c.args.out.now.items c.put_replies.new.out.items t.1 t.2)
+
+pub put_replies-requires-clause-told : goal.put_replies-requires-clause-told
+put_replies-requires-clause-told g c = c.answer-told.ensures.done.told

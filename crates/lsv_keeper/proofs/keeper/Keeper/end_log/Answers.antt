@@ -61,7 +61,7 @@ returns-in-Ok-exit_line-clause-keeps g c =
     let v1 : KeeperView = view_of c.release-in-Ok.new.self in
     let departs : Departs (Some c.args.log) c.args.conn Dead (view_of c.args.self.now) v1 = departs_from (view_of c.args.self.now) v1 c.take.new.self (Some c.args.log) c.args.conn Dead c.release-in-Ok.ensures.departs in
     keeps_line (view_of c.args.self.now) v1 (view_of c.exit_line.new.self) (departs_keeps (Some c.args.log) c.args.conn Dead (view_of c.args.self.now) v1 departs c.release-in-Ok.ensures.room)
-    (departs_owed (Some c.args.log) c.args.conn Dead (view_of c.args.self.now) v1 departs) c.exit_line.ensures.keeps c.exit_line.ensures.same
+    (departs_owed (Some c.args.log) c.args.conn Dead (view_of c.args.self.now) v1 departs) c.exit_line.ensures.frame.keeps c.exit_line.ensures.frame.same
 
 pub returns-in-Ok-exit_line-clause-row : goal.returns-in-Ok-exit_line-clause-row
 returns-in-Ok-exit_line-clause-row g c told_is m job at is state asks =
@@ -85,14 +85,14 @@ returns-in-Ok-exit_line-clause-row g c told_is m job at is state asks =
     let stands = stands_told v v1 old mid m c.args.log c.args.now its c.args.exit c.in-Some.its laws laws' at asks state here ends departs closed all in
     subst (λ (j : Job). RowGives v c.args.now j (told.Finished c.in-Ok.point) m v2 old new) same_job
     (log_told v v1 old mid m c.args.log c.args.now its c.args.exit c.in-Some.its laws laws' at asks state here ends departs closed v2 new c.in-Ok.point all c.in-Ok.ensures.elapsed
-    (c.exit_line.ensures.beside told_is _ stands) (λ y rep. c.in-Ok-exit_line.ensures.added told_is y rep))
+    (c.exit_line.ensures.frame.beside told_is _ stands) (λ y rep. c.in-Ok-exit_line.ensures.added told_is y rep))
 
 pub returns-in-Ok-clause-keeps : goal.returns-in-Ok-clause-keeps
 returns-in-Ok-clause-keeps g c =
     let v1 : KeeperView = view_of c.release-in-Ok.new.self in
     let departs : Departs (Some c.args.log) c.args.conn Dead (view_of c.args.self.now) v1 = departs_from (view_of c.args.self.now) v1 c.take.new.self (Some c.args.log) c.args.conn Dead c.release-in-Ok.ensures.departs in
     keeps_line (view_of c.args.self.now) v1 (view_of c.exit_line.new.self) (departs_keeps (Some c.args.log) c.args.conn Dead (view_of c.args.self.now) v1 departs c.release-in-Ok.ensures.room)
-    (departs_owed (Some c.args.log) c.args.conn Dead (view_of c.args.self.now) v1 departs) c.exit_line.ensures.keeps c.exit_line.ensures.same
+    (departs_owed (Some c.args.log) c.args.conn Dead (view_of c.args.self.now) v1 departs) c.exit_line.ensures.frame.keeps c.exit_line.ensures.frame.same
 
 pub returns-in-Ok-clause-row : goal.returns-in-Ok-clause-row
 returns-in-Ok-clause-row g c told_is m job at is state asks =
@@ -116,7 +116,7 @@ returns-in-Ok-clause-row g c told_is m job at is state asks =
     let stands = stands_told v v1 old mid m c.args.log c.args.now its c.args.exit c.in-Some.its laws laws' at asks state here ends departs closed all in
     subst (λ (j : Job). RowGives v c.args.now j (told.Refused c.in-Err-exit_line.why) m v2 old new) same_job
     (log_line_refused v v1 old mid m c.args.log c.args.now its c.args.exit c.in-Some.its laws laws' at asks state here ends departs closed v2 new c.in-Err-exit_line.why all
-    (c.exit_line.ensures.beside told_is _ stands) (λ y rep. c.in-Err-exit_line.ensures.refused told_is y rep))
+    (c.exit_line.ensures.frame.beside told_is _ stands) (λ y rep. c.in-Err-exit_line.ensures.refused told_is y rep))
 
 pub returns-in-Disk-clause-keeps : goal.returns-in-Disk-clause-keeps
 returns-in-Disk-clause-keeps g c =
@@ -216,7 +216,7 @@ returns-in-Ok-exit_line-clause-syncs g c told_is m at state =
     let here : log_in v c.args.log ≡ Some c.in-Some.its = sym c.in-Some.ensures.taken in
     let departs : Departs (Some c.args.log) c.args.conn Dead v v1 = departs_from v v1 c.take.new.self (Some c.args.log) c.args.conn Dead c.release-in-Ok.ensures.departs in
     let ended = ended_once c.args.log c.in-Some.its v v1 old mid m c.args.conn Dead at state here departs (c.finish.ensures.calls told_is) in
-    followed NoLog v v1 (view_of c.exit_line.new.self) old mid (g.D.Disk.view c.exit_line.new.disk) ended (line_quiet NoLog v1 (view_of c.exit_line.new.self) mid (g.D.Disk.view c.exit_line.new.disk) c.exit_line.ensures.same (c.exit_line.ensures.syncs told_is))
+    followed NoLog v v1 (view_of c.exit_line.new.self) old mid (g.D.Disk.view c.exit_line.new.disk) ended (line_quiet NoLog v1 (view_of c.exit_line.new.self) mid (g.D.Disk.view c.exit_line.new.disk) c.exit_line.ensures.frame.same (c.exit_line.ensures.frame.syncs told_is))
 
 pub returns-in-Ok-clause-syncs : goal.returns-in-Ok-clause-syncs
 returns-in-Ok-clause-syncs g c told_is m at state =
@@ -227,7 +227,7 @@ returns-in-Ok-clause-syncs g c told_is m at state =
     let here : log_in v c.args.log ≡ Some c.in-Some.its = sym c.in-Some.ensures.taken in
     let departs : Departs (Some c.args.log) c.args.conn Dead v v1 = departs_from v v1 c.take.new.self (Some c.args.log) c.args.conn Dead c.release-in-Ok.ensures.departs in
     let ended = ended_once c.args.log c.in-Some.its v v1 old mid m c.args.conn Dead at state here departs (c.finish.ensures.calls told_is) in
-    followed NoLog v v1 (view_of c.exit_line.new.self) old mid (g.D.Disk.view c.exit_line.new.disk) ended (line_quiet NoLog v1 (view_of c.exit_line.new.self) mid (g.D.Disk.view c.exit_line.new.disk) c.exit_line.ensures.same (c.exit_line.ensures.syncs told_is))
+    followed NoLog v v1 (view_of c.exit_line.new.self) old mid (g.D.Disk.view c.exit_line.new.disk) ended (line_quiet NoLog v1 (view_of c.exit_line.new.self) mid (g.D.Disk.view c.exit_line.new.disk) c.exit_line.ensures.frame.same (c.exit_line.ensures.frame.syncs told_is))
 
 pub returns-in-Disk-clause-syncs : goal.returns-in-Disk-clause-syncs
 returns-in-Disk-clause-syncs g c told_is m at state =
@@ -258,14 +258,14 @@ returns-in-Ok-exit_line-clause-does g c is =
     quiet_then (λ e. absurd (cc))
     (taken_then c.args.log c.take.new.self (λ all none. absurd none) (at_each (open_logs c.take.new.self) (with_open c.args.log None (open_logs c.args.self.now.logs)) c.take.ensures.rest)
     (departs_goes c.args.log c.args.conn Dead (record (view_of c.args.self.now) { logs = c.take.new.self }) (view_of c.release-in-Ok.new.self) (g.D.Disk.view c.args.disk.now) (g.D.Disk.view c.finish.new.disk) refl c.release-in-Ok.ensures.departs c.release-in-Ok.ensures.logs (λ linked. linked c.args.conn c.args.log is) c.finish.ensures.cause.monotone))
-    (does_needs (λ e. sym c.release-in-Ok.ensures.departs.beside.log_exit ∙ e) c.in-Ok-exit_line.ensures.does)
+    (does_needs (λ e. sym c.release-in-Ok.ensures.departs.beside.log_exit ∙ e) c.in-Ok-exit_line.ensures.frame.does)
 
 pub returns-in-Ok-clause-does : goal.returns-in-Ok-clause-does
 returns-in-Ok-clause-does g c is =
     quiet_then (λ e. ap (λ (w : Refusal). err w) (refused_is c.in-Err-exit_line.why e))
     (taken_then c.args.log c.take.new.self (λ all none. absurd none) (at_each (open_logs c.take.new.self) (with_open c.args.log None (open_logs c.args.self.now.logs)) c.take.ensures.rest)
     (departs_goes c.args.log c.args.conn Dead (record (view_of c.args.self.now) { logs = c.take.new.self }) (view_of c.release-in-Ok.new.self) (g.D.Disk.view c.args.disk.now) (g.D.Disk.view c.finish.new.disk) refl c.release-in-Ok.ensures.departs c.release-in-Ok.ensures.logs (λ linked. linked c.args.conn c.args.log is) c.finish.ensures.cause.monotone))
-    (does_needs (λ e. sym c.release-in-Ok.ensures.departs.beside.log_exit ∙ e) c.in-Err-exit_line.ensures.does)
+    (does_needs (λ e. sym c.release-in-Ok.ensures.departs.beside.log_exit ∙ e) c.in-Err-exit_line.ensures.frame.does)
 
 pub returns-in-Disk-clause-does : goal.returns-in-Disk-clause-does
 returns-in-Disk-clause-does g c is =

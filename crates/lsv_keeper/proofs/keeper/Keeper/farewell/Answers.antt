@@ -15,8 +15,8 @@ use Rattle.lsv_keeper.proofs.Syncing.{noted_else}
 use Rattle.lsv_keeper.proofs.Causes.{forgotten_then}
 use Rattle.lsv_keeper.proofs.keeper.Keeper.farewell.Goals as goal
 
-pub leave-requires : goal.leave-requires
-leave-requires g c = record {
+pub enter_state-requires : goal.enter_state-requires
+enter_state-requires g c = record {
   stands = λ told. let (m, at) = c.requires.stands told in (
     record m { noting = without_conn c.args.conn m.noting },
     forget_represents (view_of c.args.self.now) (g.D.Disk.view c.args.disk.now) m c.args.conn c.forget.new.conns.items c.forget.ensures at,
@@ -25,29 +25,25 @@ leave-requires g c = record {
   room = let x = room_fresh ((sessions_of (view_of c.args.self.now)).states c.args.conn) in omega arith;
 }
 
-pub returns-clause-keeps : goal.returns-clause-keeps
-returns-clause-keeps g c = keeps_forget (view_of c.args.self.now) (view_of c.leave.new.self) c.args.conn c.forget.new.conns.items c.forget.ensures c.leave.ensures.keeps
+pub returns-clause-frame : goal.returns-clause-frame
+returns-clause-frame g c = record {
+  keeps = keeps_forget (view_of c.args.self.now) (view_of c.enter_state.new.self) c.args.conn c.forget.new.conns.items c.forget.ensures c.enter_state.ensures.frame.keeps;
+  syncs = λ told m at.
+      let v : KeeperView = view_of c.args.self.now in
+      let old : DiskView = g.D.Disk.view c.args.disk.now in
+      noted_else NoLog v (view_of c.enter_state.new.self) c.forget.new.conns.items old (g.D.Disk.view c.enter_state.new.disk)
+      (c.enter_state.ensures.frame.syncs told (record m { noting = without_conn c.args.conn m.noting }) (forget_represents v old m c.args.conn c.forget.new.conns.items c.forget.ensures at));
+  does = forgotten_then c.args.conn c.forget.new.conns.items c.forget.ensures c.enter_state.ensures.frame.does;
+}
 
 pub returns-clause-row : goal.returns-clause-row
 returns-clause-row g c told m job now at is gone alive =
     let old : DiskView = g.D.Disk.view c.args.disk.now in
-    let new : DiskView = g.D.Disk.view c.leave.new.disk in
+    let new : DiskView = g.D.Disk.view c.enter_state.new.disk in
     let laws : Laws old = record { reads_itself = g.met.D.Disk.reads_itself told c.args.disk.now; is_now = g.met.D.Disk.is_now told c.args.disk.now; only_now = g.met.D.Disk.only_now told c.args.disk.now } in
     let v : KeeperView = view_of c.args.self.now in
     let mid : Machine = record m { noting = without_conn c.args.conn m.noting } in
-    farewell_row v (view_of c.leave.new.self) c.forget.new.conns.items now job m old new laws at
+    farewell_row v (view_of c.enter_state.new.self) c.forget.new.conns.items now job m old new laws at
     (subst (λ (k : ConnId). is_dead (m.states k) ≡ false) (sym is) alive) gone
-    (subst (λ (k : ConnId). Left k Fresh (record v { noting = c.forget.new.conns.items }) (record m { noting = without_conn k m.noting }) (view_of c.leave.new.self) old new) (sym is)
-    (c.leave.ensures.left told mid (forget_represents v old m c.args.conn c.forget.new.conns.items c.forget.ensures at)))
-
-pub returns-clause-syncs : goal.returns-clause-syncs
-returns-clause-syncs g c told m at =
-    let v : KeeperView = view_of c.args.self.now in
-    let old : DiskView = g.D.Disk.view c.args.disk.now in
-    noted_else NoLog v (view_of c.leave.new.self) c.forget.new.conns.items old (g.D.Disk.view c.leave.new.disk)
-    (c.leave.ensures.syncs told (record m { noting = without_conn c.args.conn m.noting }) (forget_represents v old m c.args.conn c.forget.new.conns.items c.forget.ensures at))
-
--- ---- Over every disk
-
-pub returns-clause-does : goal.returns-clause-does
-returns-clause-does g c = forgotten_then c.args.conn c.forget.new.conns.items c.forget.ensures c.leave.ensures.does
+    (subst (λ (k : ConnId). Left k Fresh (record v { noting = c.forget.new.conns.items }) (record m { noting = without_conn k m.noting }) (view_of c.enter_state.new.self) old new) (sym is)
+    (c.enter_state.ensures.left told mid (forget_represents v old m c.args.conn c.forget.new.conns.items c.forget.ensures at)))

@@ -1,4 +1,4 @@
-use Rattle.std.proofs.Common.{◌≡◌, List, [], sym, ◌∙◌, ap, subst, Err, refl, inl, inr}
+use Rattle.std.proofs.Common.{◌≡◌, List, [], sym, ◌∙◌, ap, subst, Err, refl, inl, inr, arith}
 use Rattle.lsv_bundle.specs.declared.fault.BundleFault.TheVariants as faults
 use Rattle.lsv_eventlog.specs.Value.{EventLogView}
 use Rattle.lsv_session.specs.declared.connection.ConnId.{ConnId}
@@ -59,34 +59,36 @@ returns-in-Broken-clause-lines g c = λ told m at.
 
 pub returns-in_default-fault : goal.returns-in_default-fault
 returns-in_default-fault g c = record {
-  set = let s = c.lose_lines.ensures.set in record { lane = s.lane; lanes = s.lanes; log_exit = s.log_exit; kind = s.kind; texts = s.texts };
+  frame = record {
+    set = let s = c.lose_lines.ensures.frame.set in record { lane = s.lane; lanes = s.lanes; log_exit = s.log_exit; kind = s.kind; texts = s.texts };
+    fewer = c.lose_lines.ensures.frame.fewer;
+    places = c.lose_lines.ensures.frame.places;
+    replies = c.lose_lines.ensures.frame.replies;
+    syncs = λ told m at.
+        let v = view_of c.args.self.now in
+        let old = g.D.Disk.view c.args.disk.now in
+        let mid = g.D.Disk.view c.flush.new.disk in
+        let f = flush_lost (view_of c.args.self.now) c.flush.new.self m (g.D.Disk.view c.args.disk.now) (g.D.Disk.view c.flush.new.disk) c.flush.result c.in-Err.fault
+        (record { reads_itself = g.met.D.Disk.reads_itself told c.args.disk.now; is_now = g.met.D.Disk.is_now told c.args.disk.now; only_now = g.met.D.Disk.only_now told c.args.disk.now })
+        (record { reads_itself = g.met.D.Disk.reads_itself told c.flush.new.disk; is_now = g.met.D.Disk.is_now told c.flush.new.disk; only_now = g.met.D.Disk.only_now told c.flush.new.disk })
+        at c.in-Err.is c.in_default-fault.not-Broken c.in-Err.ensures.fault c.flush.ensures.broken c.flush.ensures.disk (c.flush.ensures.any_moment told) c.in-Err.ensures.kept.lane c.flush.ensures.sound c.flush.ensures.cause in
+        let flushed = quiet NoLog v v old mid refl (λ n. refl) (lines_flushed v.events.lane v.events.bundle old mid at.events.sound.owner (c.flush.ensures.calls told)) in
+        followed NoLog v v (view_of c.lose_lines.new.self) old mid (g.D.Disk.view c.lose_lines.new.disk) flushed
+        (events_else NoLog v (view_of c.lose_lines.new.self) c.flush.new.self mid (g.D.Disk.view c.lose_lines.new.disk) (let t = c.lose_lines.ensures.frame.syncs told (with_lines f.wrote m) f.represents in record { past = t.past; each = t.each }));
+    does =
+        let old = g.D.Disk.view c.args.disk.now in
+        let mid = g.D.Disk.view c.flush.new.disk in
+        let disk_it : c.in-Err.fault ≡ faults.Disk = elim c.in-Err.ensures.fault [ inl is ↦ is | inr is ↦ absurd (c.in_default-fault.not-Broken is) ] in
+        let rose : StoreRose old mid = own_rose (IsOfEventLog c.args.self.now.events.lane) _ old mid (λ file own. inr (inr (c.args.self.now.events.lane, of_lane c.args.self.now.events.lane file own))) c.flush.ensures.cause (c.in-Err.is ∙ ap Err disk_it) in
+        does_then (λ none. absurd none) (flushed_does (view_of c.args.self.now) c.flush.new.self [] old mid c.flush.ensures.cause.monotone (λ broken. inr rose) refl) c.lose_lines.ensures.frame.does;
+  };
   none = c.lose_lines.ensures.none;
-  fewer = c.lose_lines.ensures.fewer;
-  places = c.lose_lines.ensures.places;
-  room = c.lose_lines.ensures.room;
-  does =
-      let old = g.D.Disk.view c.args.disk.now in
-      let mid = g.D.Disk.view c.flush.new.disk in
-      let disk_it : c.in-Err.fault ≡ faults.Disk = elim c.in-Err.ensures.fault [ inl is ↦ is | inr is ↦ absurd (c.in_default-fault.not-Broken is) ] in
-      let rose : StoreRose old mid = own_rose (IsOfEventLog c.args.self.now.events.lane) _ old mid (λ file own. inr (inr (c.args.self.now.events.lane, of_lane c.args.self.now.events.lane file own))) c.flush.ensures.cause (c.in-Err.is ∙ ap Err disk_it) in
-      does_then (λ none. absurd none) (flushed_does (view_of c.args.self.now) c.flush.new.self [] old mid c.flush.ensures.cause.monotone (λ broken. inr rose) refl) c.lose_lines.ensures.does;
   says = λ p s.
       let old = g.D.Disk.view c.args.disk.now in
       let mid = g.D.Disk.view c.flush.new.disk in
       let disk_it : c.in-Err.fault ≡ faults.Disk = elim c.in-Err.ensures.fault [ inl is ↦ is | inr is ↦ absurd (c.in_default-fault.not-Broken is) ] in
       let rose : StoreRose old mid = own_rose (IsOfEventLog c.args.self.now.events.lane) _ old mid (λ file own. inr (inr (c.args.self.now.events.lane, of_lane c.args.self.now.events.lane file own))) c.flush.ensures.cause (c.in-Err.is ∙ ap Err disk_it) in
-      says_as (IsAmong p) (IsAmong p) (λ k. Unit {0}) (λ k. StoreRose old (g.D.Disk.view c.lose_lines.new.disk)) c.args.out.now.items c.lose_lines.new.out.items (λ k is. is) (λ k is t. rose_first old mid (g.D.Disk.view c.lose_lines.new.disk) rose c.lose_lines.ensures.does.monotone) (c.lose_lines.ensures.says p s.notes);
-  syncs = λ told m at.
-      let v = view_of c.args.self.now in
-      let old = g.D.Disk.view c.args.disk.now in
-      let mid = g.D.Disk.view c.flush.new.disk in
-      let f = flush_lost (view_of c.args.self.now) c.flush.new.self m (g.D.Disk.view c.args.disk.now) (g.D.Disk.view c.flush.new.disk) c.flush.result c.in-Err.fault
-      (record { reads_itself = g.met.D.Disk.reads_itself told c.args.disk.now; is_now = g.met.D.Disk.is_now told c.args.disk.now; only_now = g.met.D.Disk.only_now told c.args.disk.now })
-      (record { reads_itself = g.met.D.Disk.reads_itself told c.flush.new.disk; is_now = g.met.D.Disk.is_now told c.flush.new.disk; only_now = g.met.D.Disk.only_now told c.flush.new.disk })
-      at c.in-Err.is c.in_default-fault.not-Broken c.in-Err.ensures.fault c.flush.ensures.broken c.flush.ensures.disk (c.flush.ensures.any_moment told) c.in-Err.ensures.kept.lane c.flush.ensures.sound c.flush.ensures.cause in
-      let flushed = quiet NoLog v v old mid refl (λ n. refl) (lines_flushed v.events.lane v.events.bundle old mid at.events.sound.owner (c.flush.ensures.calls told)) in
-      followed NoLog v v (view_of c.lose_lines.new.self) old mid (g.D.Disk.view c.lose_lines.new.disk) flushed
-      (events_else NoLog v (view_of c.lose_lines.new.self) c.flush.new.self mid (g.D.Disk.view c.lose_lines.new.disk) (c.lose_lines.ensures.syncs told (with_lines f.wrote m) f.represents));
+      says_as (IsAmong p) (IsAmong p) (λ k. Unit {0}) (λ k. StoreRose old (g.D.Disk.view c.lose_lines.new.disk)) c.args.out.now.items c.lose_lines.new.out.items (λ k is. is) (λ k is t. rose_first old mid (g.D.Disk.view c.lose_lines.new.disk) rose c.lose_lines.ensures.frame.does.monotone) (c.lose_lines.ensures.says p s.notes);
   lines = λ told m at.
       let f = flush_lost (view_of c.args.self.now) c.flush.new.self m (g.D.Disk.view c.args.disk.now) (g.D.Disk.view c.flush.new.disk) c.flush.result c.in-Err.fault
       (record { reads_itself = g.met.D.Disk.reads_itself told c.args.disk.now; is_now = g.met.D.Disk.is_now told c.args.disk.now; only_now = g.met.D.Disk.only_now told c.args.disk.now })
@@ -96,27 +98,35 @@ returns-in_default-fault g c = record {
       f at.noting (c.lose_lines.ensures.refused told (with_lines f.wrote m) f.represents);
 }
 
-pub returns-in_default-clause-syncs : goal.returns-in_default-clause-syncs
-returns-in_default-clause-syncs g c told m at =
-    quiet NoLog (view_of c.args.self.now) _ (g.D.Disk.view c.args.disk.now) (g.D.Disk.view c.flush.new.disk) refl (λ n. refl)
-    (lines_flushed (view_of c.args.self.now).events.lane (view_of c.args.self.now).events.bundle (g.D.Disk.view c.args.disk.now) (g.D.Disk.view c.flush.new.disk) at.events.sound.owner (c.flush.ensures.calls told))
+pub returns-in_default-clause-frame : goal.returns-in_default-clause-frame
+returns-in_default-clause-frame g c = record {
+  set = record { lane = refl; lanes = refl; log_exit = refl; kind = refl; texts = refl };
+  fewer = omega arith;
+  places = omega arith;
+  replies = omega arith;
+  syncs = λ told m at.
+      quiet NoLog (view_of c.args.self.now) _ (g.D.Disk.view c.args.disk.now) (g.D.Disk.view c.flush.new.disk) refl (λ n. refl)
+      (lines_flushed (view_of c.args.self.now).events.lane (view_of c.args.self.now).events.bundle (g.D.Disk.view c.args.disk.now) (g.D.Disk.view c.flush.new.disk) at.events.sound.owner (c.flush.ensures.calls told));
+  does = flushed_does (view_of c.args.self.now) c.flush.new.self c.clear.new.self.items (g.D.Disk.view c.args.disk.now) (g.D.Disk.view c.flush.new.disk) c.in_default.ensures.cause.monotone (λ broken. let q : true ≡ false = sym broken ∙ c.in_default.ensures.whole in absurd (cc)) c.clear.ensures.items;
+}
 
-pub returns-in-Broken-clause-syncs : goal.returns-in-Broken-clause-syncs
-returns-in-Broken-clause-syncs g c told m at =
-    quiet NoLog (view_of c.args.self.now) _ (g.D.Disk.view c.args.disk.now) (g.D.Disk.view c.flush.new.disk) refl (λ n. refl)
-    (lines_flushed (view_of c.args.self.now).events.lane (view_of c.args.self.now).events.bundle (g.D.Disk.view c.args.disk.now) (g.D.Disk.view c.flush.new.disk) at.events.sound.owner (c.flush.ensures.calls told))
+pub returns-in-Broken-clause-frame : goal.returns-in-Broken-clause-frame
+returns-in-Broken-clause-frame g c = record {
+  set = record { lane = refl; lanes = refl; log_exit = refl; kind = refl; texts = refl };
+  fewer = omega arith;
+  places = omega arith;
+  replies = omega arith;
+  syncs = λ told m at.
+      quiet NoLog (view_of c.args.self.now) _ (g.D.Disk.view c.args.disk.now) (g.D.Disk.view c.flush.new.disk) refl (λ n. refl)
+      (lines_flushed (view_of c.args.self.now).events.lane (view_of c.args.self.now).events.bundle (g.D.Disk.view c.args.disk.now) (g.D.Disk.view c.flush.new.disk) at.events.sound.owner (c.flush.ensures.calls told));
+  does =
+      flushed_does (view_of c.args.self.now) c.flush.new.self c.clear-in-Broken.new.self.items (g.D.Disk.view c.args.disk.now) (g.D.Disk.view c.flush.new.disk) c.flush.ensures.cause.monotone (λ broken. inl (c.flush.ensures.broken.0 (c.in-Err.is ∙ ap Err c.in-Broken.is))) c.clear-in-Broken.ensures.items;
+}
 
 -- ---- Over every disk
 
-pub returns-in_default-clause-does : goal.returns-in_default-clause-does
-returns-in_default-clause-does g c = flushed_does (view_of c.args.self.now) c.flush.new.self c.clear.new.self.items (g.D.Disk.view c.args.disk.now) (g.D.Disk.view c.flush.new.disk) c.in_default.ensures.cause.monotone (λ broken. let q : true ≡ false = sym broken ∙ c.in_default.ensures.whole in absurd (cc)) c.clear.ensures.items
-
 pub returns-in_default-clause-says : goal.returns-in_default-clause-says
 returns-in_default-clause-says g c p s = says_none (IsAmong p) _ c.args.out.now.items
-
-pub returns-in-Broken-clause-does : goal.returns-in-Broken-clause-does
-returns-in-Broken-clause-does g c =
-    flushed_does (view_of c.args.self.now) c.flush.new.self c.clear-in-Broken.new.self.items (g.D.Disk.view c.args.disk.now) (g.D.Disk.view c.flush.new.disk) c.flush.ensures.cause.monotone (λ broken. inl (c.flush.ensures.broken.0 (c.in-Err.is ∙ ap Err c.in-Broken.is))) c.clear-in-Broken.ensures.items
 
 pub returns-in-Broken-clause-says : goal.returns-in-Broken-clause-says
 returns-in-Broken-clause-says g c p s = says_none (IsAmong p) _ c.args.out.now.items

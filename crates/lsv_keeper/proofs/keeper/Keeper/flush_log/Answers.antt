@@ -1,4 +1,4 @@
-use Rattle.std.proofs.Common.{◌≡◌, ◌∷◌, ◌++◌, [], Some, sym, ◌∙◌, subst, map, None, refl}
+use Rattle.std.proofs.Common.{◌≡◌, ◌∷◌, ◌++◌, [], Some, sym, ◌∙◌, subst, map, None, refl, arith, ap}
 use Rattle.lsv_session.specs.declared.connection.ConnId.{ConnId}
 use Rattle.lsv_session.specs.declared.connection.ConnState.TheVariants.{Dead}
 use Rattle.lsv_machine.specs.Answers.{CommitPoint, reply_of, say}
@@ -14,6 +14,7 @@ use Rattle.lsv_machine.proofs.Choices.{SomeOr.nothing, SomeOr.just, some_or}
 use Rattle.lsv_keeper.specs.Value.{log_in}
 use Rattle.lsv_request.specs.declared.refusal.Refusal.TheVariants.{DeviceFault}
 use Rattle.lsv_keeper.specs.declared.told.Told.TheVariants as told
+use Rattle.lsv_machine.specs.Machine.{without_log}
 use Rattle.lsv_keeper.proofs.keeper.Keeper.flush_log.Goals as goal
 
 one_conn : (j k : ConnId) → Some j ≡ Some k → j ≡ k
@@ -46,42 +47,55 @@ returns-in-Some-flush-clause-syncs g c told m k at own = flushed_one c.args.numb
 pub returns-in-None-clause-syncs : goal.returns-in-None-clause-syncs
 returns-in-None-clause-syncs g c told m k at own = flushed_one c.args.number k (view_of c.args.self.now) None _ _ m (g.D.Disk.view c.args.disk.now) (g.D.Disk.view c.flush.new.disk) at own (λ its value here rep. c.in-None.ensures.flushed told its value here rep)
 
--- ---- Over every disk
-
-pub returns-in_default-clause-does : goal.returns-in_default-clause-does
-returns-in_default-clause-does g c = does_none (λ none. none)
-
-pub returns-in_default-clause-waits : goal.returns-in_default-clause-waits
-returns-in_default-clause-waits g c p n it = it
+pub returns-in_default-clause-frame : goal.returns-in_default-clause-frame
+returns-in_default-clause-frame g c = record {
+  set = record { lane = refl; lanes = refl; log_exit = refl; kind = refl; texts = refl };
+  waiting = c.requires.none_waits;
+  noting = refl;
+  places = omega arith;
+  replies = omega arith;
+  does = does_none (λ none. none);
+  waits = λ p n it. it;
+}
 
 pub returns-in_default-clause-says : goal.returns-in_default-clause-says
 returns-in_default-clause-says g c p it whole = says_none (IsAmong p) _ c.args.out.now.items
 
-pub returns-in-Some-flush-clause-does : goal.returns-in-Some-flush-clause-does
-returns-in-Some-flush-clause-does g c =
-    let k = c.in-Some-flush.ensures.keeps in
-    let (its, whole, are) = k.flushed in
-    one_flushed c.args.number its (view_of c.args.self.now) c.flush.new.self (g.D.Disk.view c.args.disk.now) (g.D.Disk.view c.flush.new.disk) k.monotone whole are
-
-pub returns-in-Some-flush-clause-waits : goal.returns-in-Some-flush-clause-waits
-returns-in-Some-flush-clause-waits g c p n it =
-    let (its, whole, are) = c.in-Some-flush.ensures.keeps.flushed in
-    waits_open p c.args.number its (view_of c.args.self.now) (record (view_of c.args.self.now) { logs = c.flush.new.self }) refl are n it
+pub returns-in-Some-flush-clause-frame : goal.returns-in-Some-flush-clause-frame
+returns-in-Some-flush-clause-frame g c = record {
+  set = record { lane = refl; lanes = refl; log_exit = refl; kind = refl; texts = refl };
+  waiting = c.requires.none_waits;
+  noting = refl;
+  places = omega arith;
+  replies = let r = c.put_point.ensures.room in omega (arith, r);
+  does =
+      let k = c.in-Some-flush.ensures.keeps in
+      let (its, whole, are) = k.flushed in
+      one_flushed c.args.number its (view_of c.args.self.now) c.flush.new.self (g.D.Disk.view c.args.disk.now) (g.D.Disk.view c.flush.new.disk) k.monotone whole are;
+  waits = λ p n it.
+      let (its, whole, are) = c.in-Some-flush.ensures.keeps.flushed in
+      waits_open p c.args.number its (view_of c.args.self.now) (record (view_of c.args.self.now) { logs = c.flush.new.self }) refl are n it;
+}
 
 pub returns-in-Some-flush-clause-says : goal.returns-in-Some-flush-clause-says
 returns-in-Some-flush-clause-says g c p it whole =
     let mine = it c.in-Some.conn (sym c.in-Some.ensures) in
     says_as (λ j. j ≡ c.in-Some.conn) (IsAmong p) (λ j. ⊥) _ c.args.out.now.items c.put_point.new.out.items (λ j is. subst (IsAmong p) (sym is) mine.0) (λ j is none. absurd none) (says_point c.in-Some.conn c.in-Some-flush.point c.args.out.now.items c.put_point.new.out.items c.put_point.ensures.told)
 
-pub returns-in-None-clause-does : goal.returns-in-None-clause-does
-returns-in-None-clause-does g c =
-    let k = c.in-None.ensures.keeps in
-    taken_then c.args.number c.flush.new.self (λ all none. absurd none) k.flushed.0
-    (departs_goes c.args.number c.in-Some.conn Dead (record (view_of c.args.self.now) { logs = c.flush.new.self }) (view_of c.release.new.self) (g.D.Disk.view c.args.disk.now) (g.D.Disk.view c.flush.new.disk) refl c.release.ensures.departs c.release.ensures.logs (λ linked. sym c.in-Some.ensures) k.monotone)
-
-pub returns-in-None-clause-waits : goal.returns-in-None-clause-waits
-returns-in-None-clause-waits g c p n it =
-    waits_failed p c.args.number c.in-Some.conn Dead (view_of c.args.self.now) c.flush.new.self (view_of c.release.new.self) refl c.release.ensures.departs c.release.ensures.logs c.in-None.ensures.keeps.flushed.0 n it
+pub returns-in-None-clause-frame : goal.returns-in-None-clause-frame
+returns-in-None-clause-frame g c = record {
+  set = let b = c.release.ensures.departs.beside in record { lane = b.lane; lanes = b.lanes; log_exit = b.log_exit; kind = b.kind; texts = b.texts };
+  waiting = c.release.ensures.departs.waiting ∙ ap (without_log (Some c.args.number)) c.requires.none_waits;
+  noting = c.release.ensures.departs.beside.noting;
+  places = c.release.ensures.room;
+  replies = c.put_replies.ensures.room;
+  does =
+      let k = c.in-None.ensures.keeps in
+      taken_then c.args.number c.flush.new.self (λ all none. absurd none) k.flushed.0
+      (departs_goes c.args.number c.in-Some.conn Dead (record (view_of c.args.self.now) { logs = c.flush.new.self }) (view_of c.release.new.self) (g.D.Disk.view c.args.disk.now) (g.D.Disk.view c.flush.new.disk) refl c.release.ensures.departs c.release.ensures.logs (λ linked. sym c.in-Some.ensures) k.monotone);
+  waits = λ p n it.
+      waits_failed p c.args.number c.in-Some.conn Dead (view_of c.args.self.now) c.flush.new.self (view_of c.release.new.self) refl c.release.ensures.departs c.release.ensures.logs c.in-None.ensures.keeps.flushed.0 n it;
+}
 
 pub returns-in-None-clause-says : goal.returns-in-None-clause-says
 returns-in-None-clause-says g c p it whole =

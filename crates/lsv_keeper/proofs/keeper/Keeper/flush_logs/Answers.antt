@@ -47,16 +47,16 @@ pub loop-number-preserved : goal.loop-number-preserved
 loop-number-preserved g c = record {
   flushing = flushing_on g.D.Disk.tells c.loop-number.number-index c.number-item.result c.deref-number-items.result.now (view_of c.args.self.now) (view_of c.loop-number.self) (view_of c.flush_log.new.self) (room_in c.args.out.now) (room_in c.loop-number.out) (room_in c.flush_log.new.out)
       c.args.out.now.items c.loop-number.out.items c.flush_log.new.out.items (g.D.Disk.view c.args.disk.now) (g.D.Disk.view c.loop-number.disk) (g.D.Disk.view c.flush_log.new.disk) (ap (λ (x : Vec LogNo). x.items) (sym c.replace-waiting.ensures.value) ∙ sym c.deref-number-items.ensures.value) c.loop-number-test.true c.number-item.is
-      c.loop-number.invariant.flushing c.flush_log.ensures.set c.flush_log.ensures.waiting c.flush_log.ensures.noting c.flush_log.ensures.places c.flush_log.ensures.room c.flush_log.ensures.log;
+      c.loop-number.invariant.flushing c.flush_log.ensures.frame.set c.flush_log.ensures.frame.waiting c.flush_log.ensures.frame.noting c.flush_log.ensures.frame.places c.flush_log.ensures.frame.replies c.flush_log.ensures.log;
   synced = λ told m at. waiting_on g.D.Disk.tells c.loop-number.number-index c.number-item.result c.deref-number-items.result.now (view_of c.args.self.now) (view_of c.loop-number.self) (room_in c.args.out.now) (room_in c.loop-number.out) c.args.out.now.items c.loop-number.out.items
       (g.D.Disk.view c.args.disk.now) (g.D.Disk.view c.loop-number.disk) (g.D.Disk.view c.flush_log.new.disk) (ap (λ (x : Vec LogNo). x.items) (sym c.replace-waiting.ensures.value) ∙ sym c.deref-number-items.ensures.value) c.loop-number-test.true c.number-item.is
       c.loop-number.invariant.flushing told m at (c.loop-number.invariant.synced told m at) (λ after k rep own. c.flush_log.ensures.syncs told after k rep own);
-  kept = does_then (λ none. absurd none) c.loop-number.invariant.kept c.flush_log.ensures.does;
-  waits = λ p n it. c.flush_log.ensures.waits p n (c.loop-number.invariant.waits p n it);
+  kept = does_then (λ none. absurd none) c.loop-number.invariant.kept c.flush_log.ensures.frame.does;
+  waits = λ p n it. c.flush_log.ensures.frame.waits p n (c.loop-number.invariant.waits p n it);
   says = λ p all whole.
       let its = all_at (Waits p (view_of c.args.self.now)) c.deref-number-items.result.now c.loop-number.number-index c.number-item.result c.loop-number-test.true c.number-item.is all in
       says_then (IsAmong p) (λ j. StoreRose (g.D.Disk.view c.args.disk.now) (g.D.Disk.view c.flush_log.new.disk)) c.args.out.now.items c.loop-number.out.items c.flush_log.new.out.items
-      (says_as (IsAmong p) (IsAmong p) (λ j. StoreRose (g.D.Disk.view c.args.disk.now) (g.D.Disk.view c.loop-number.disk)) (λ j. StoreRose (g.D.Disk.view c.args.disk.now) (g.D.Disk.view c.flush_log.new.disk)) c.args.out.now.items c.loop-number.out.items (λ k is. is) (λ k is rose. rose_first (g.D.Disk.view c.args.disk.now) (g.D.Disk.view c.loop-number.disk) (g.D.Disk.view c.flush_log.new.disk) rose c.flush_log.ensures.does.monotone) (c.loop-number.invariant.says p all whole))
+      (says_as (IsAmong p) (IsAmong p) (λ j. StoreRose (g.D.Disk.view c.args.disk.now) (g.D.Disk.view c.loop-number.disk)) (λ j. StoreRose (g.D.Disk.view c.args.disk.now) (g.D.Disk.view c.flush_log.new.disk)) c.args.out.now.items c.loop-number.out.items (λ k is. is) (λ k is rose. rose_first (g.D.Disk.view c.args.disk.now) (g.D.Disk.view c.loop-number.disk) (g.D.Disk.view c.flush_log.new.disk) rose c.flush_log.ensures.frame.does.monotone) (c.loop-number.invariant.says p all whole))
       (says_as (IsAmong p) (IsAmong p) (λ j. StoreRose (g.D.Disk.view c.loop-number.disk) (g.D.Disk.view c.flush_log.new.disk)) (λ j. StoreRose (g.D.Disk.view c.args.disk.now) (g.D.Disk.view c.flush_log.new.disk)) c.loop-number.out.items c.flush_log.new.out.items (λ k is. is) (λ k is rose. rose_second (g.D.Disk.view c.args.disk.now) (g.D.Disk.view c.loop-number.disk) (g.D.Disk.view c.flush_log.new.disk) c.loop-number.invariant.kept.monotone rose)
       (c.flush_log.ensures.says p (c.loop-number.invariant.waits p c.number-item.result its) (c.loop-number.invariant.kept.whole whole)));
 }

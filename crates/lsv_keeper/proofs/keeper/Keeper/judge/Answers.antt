@@ -3,9 +3,12 @@ use Rattle.std.specs.Prelude.{false, Ok, Result}
 use Rattle.lsv_request.specs.declared.request.Request.{Request}
 use Rattle.lsv_request.specs.declared.refusal.Refusal.{Refusal}
 use Rattle.lsv_session.specs.declared.connection.ConnState.{ConnState}
+use Rattle.lsv_session.specs.declared.job.Body.{Body}
 use Rattle.lsv_session.specs.declared.job.Body.TheVariants as bodies
+use Rattle.lsv_machine.specs.Failures.{AsksFor}
 use Rattle.lsv_machine.specs.Judgement.{judged}
 use Rattle.lsv_machine.specs.Machine.{is_dead}
+use Rattle.lsv_keeper.specs.Rows.{IsTold}
 use Rattle.lsv_keeper.specs.Value.{settings_of}
 use Rattle.lsv_keeper.specs.Views.{view_of}
 use Rattle.lsv_keeper.specs.Syncing.{GoesOnWith}
@@ -18,37 +21,45 @@ use Rattle.lsv_machine.proofs.Shapes.{Innocent, judged_innocent}
 use Rattle.lsv_keeper.proofs.SparingLemmas.{spares_none}
 use Rattle.lsv_keeper.proofs.keeper.Keeper.judge.Goals as goal
 
-pub returns-in-Err-clause-row : goal.returns-in-Err-clause-row
-returns-in-Err-clause-row g c told m job at conn is =
-    let alive : is_dead (m.states c.args.conn) ≡ false = ap is_dead (at.states c.args.conn) ∙ c.requires.alive in
-    let e : judged (m.states c.args.conn) c.args.message ≡ Err c.in-Err.why =
-    ap (λ (s : ConnState). judged s c.args.message) (at.states c.args.conn ∙ sym c.requires.state ∙ sym c.copied.ensures) ∙ sym c.in-Err.ensures in
-    c.refuse.ensures.row told m job c.args.now at conn alive (judged_fair (m.states c.args.conn) c.args.message c.in-Err.why e c.args.conn)
-    (message_refused (settings_of (view_of c.args.self.now)) c.args.now job c.args.message c.in-Err.why m c.args.conn conn is alive e)
-
 abbrev asked : Request → Result Request Refusal
 asked what = Ok what
 
-pub returns-in-Ok-clause-syncs : goal.returns-in-Ok-clause-syncs
-returns-in-Ok-clause-syncs g c told m at =
-    wider (GoesOnWith c.in-Ok.request) (Restarts (bodies.Msg c.args.message)) (view_of c.args.self.now) (view_of c.work.new.self) (g.D.Disk.view c.args.disk.now) (g.D.Disk.view c.work.new.disk)
-    (λ n goes. subst (IsRestartOf c.args.message) (sym goes.2) (restart_named c.copied.result c.args.message goes.0
-    (sym c.in-Ok.ensures ∙ ap (λ (x : Request). asked x) goes.1))) (c.work.ensures.syncs told m at)
+pub returns-in-Ok : goal.returns-in-Ok
+returns-in-Ok g c = record {
+  done =
+      let d = c.work.ensures.done in
+      record {
+        keeps = d.keeps;
+        told = d.told;
+        row = λ told m job at conn is. d.row told m job at conn (subst (λ (b : Body). AsksFor (m.states c.args.conn) b c.in-Ok.request) (sym is)
+            (ap (λ (s : ConnState). judged s c.args.message) (at.states c.args.conn ∙ sym c.requires.state ∙ sym c.copied.ensures) ∙ sym c.in-Ok.ensures));
+        syncs = λ told m at.
+            wider (GoesOnWith c.in-Ok.request) (Restarts (bodies.Msg c.args.message)) (view_of c.args.self.now) (view_of c.work.new.self) (g.D.Disk.view c.args.disk.now) (g.D.Disk.view c.work.new.disk)
+            (λ n goes. subst (IsRestartOf c.args.message) (sym goes.2) (restart_named c.copied.result c.args.message goes.0
+            (sym c.in-Ok.ensures ∙ ap (λ (x : Request). asked x) goes.1))) (d.syncs told m at);
+        spared = d.spared;
+        does = does_needs (event_brought (settings_of (view_of c.args.self.now)) c.copied.result c.args.message c.in-Ok.request (sym c.in-Ok.ensures)) d.does;
+      };
+}
 
-pub returns-in-Err-clause-syncs : goal.returns-in-Err-clause-syncs
-returns-in-Err-clause-syncs g c told m at = of_none (Restarts (bodies.Msg c.args.message)) (view_of c.args.self.now) (view_of c.refuse.new.self) (g.D.Disk.view c.args.disk.now) (g.D.Disk.view c.refuse.new.disk) (c.refuse.ensures.syncs told m at)
-
--- ---- Over every disk
-
-pub returns-in-Err-clause-does : goal.returns-in-Err-clause-does
-returns-in-Err-clause-does g c =
-    quiet_told (λ e. subst Innocent (sym c.in-Err.ensures) (judged_innocent c.copied.result c.args.message) (refused_is c.in-Err.why (sym c.refuse.ensures.told ∙ e))) c.refuse.ensures.does
-
-pub returns-in-Ok-clause-does : goal.returns-in-Ok-clause-does
-returns-in-Ok-clause-does g c =
-    does_needs (event_brought (settings_of (view_of c.args.self.now)) c.copied.result c.args.message c.in-Ok.request (sym c.in-Ok.ensures)) c.work.ensures.does
-
--- ---- Damaged logs
-
-pub returns-in-Err-clause-spared : goal.returns-in-Err-clause-spared
-returns-in-Err-clause-spared g c told m at = spares_none (view_of c.args.self.now) (view_of c.refuse.new.self) (g.D.Disk.view c.args.disk.now) (g.D.Disk.view c.refuse.new.disk) m at (c.refuse.ensures.syncs told m at)
+pub returns-in-Err : goal.returns-in-Err
+returns-in-Err g c = record {
+  done =
+      let v = view_of c.args.self.now in
+      let v' = view_of c.refuse.new.self in
+      let old = g.D.Disk.view c.args.disk.now in
+      let new = g.D.Disk.view c.refuse.new.disk in
+      record {
+        keeps = c.refuse.ensures.frame.keeps;
+        told = subst IsTold (sym c.refuse.ensures.told) tt;
+        row = λ told m job at conn is.
+            let alive : is_dead (m.states c.args.conn) ≡ false = ap is_dead (at.states c.args.conn) ∙ c.requires.alive in
+            let e : judged (m.states c.args.conn) c.args.message ≡ Err c.in-Err.why =
+            ap (λ (s : ConnState). judged s c.args.message) (at.states c.args.conn ∙ sym c.requires.state ∙ sym c.copied.ensures) ∙ sym c.in-Err.ensures in
+            c.refuse.ensures.row told m job c.args.now at conn alive (judged_fair (m.states c.args.conn) c.args.message c.in-Err.why e c.args.conn)
+            (message_refused (settings_of v) c.args.now job c.args.message c.in-Err.why m c.args.conn conn is alive e);
+        syncs = λ told m at. of_none (Restarts (bodies.Msg c.args.message)) v v' old new (c.refuse.ensures.frame.syncs told m at);
+        spared = λ told m at. spares_none v v' old new m at (c.refuse.ensures.frame.syncs told m at);
+        does = quiet_told (λ e. subst Innocent (sym c.in-Err.ensures) (judged_innocent c.copied.result c.args.message) (refused_is c.in-Err.why (sym c.refuse.ensures.told ∙ e))) c.refuse.ensures.frame.does;
+      };
+}

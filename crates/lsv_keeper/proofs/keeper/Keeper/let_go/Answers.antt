@@ -16,17 +16,13 @@ flush-requires g c = record {
 pub returns-clause-keeps : goal.returns-clause-keeps
 returns-clause-keeps g c = departs_keeps (Some c.args.log) c.args.conn c.args.state (view_of c.args.self.now) (view_of c.release.new.self) c.release.ensures.departs c.release.ensures.room
 
-pub returns-clause-sessions : goal.returns-clause-sessions
-returns-clause-sessions g c = λ t j. c.release.ensures.departs.states j t
-
-pub returns-clause-shrinks : goal.returns-clause-shrinks
-returns-clause-shrinks g c = departs_owed (Some c.args.log) c.args.conn c.args.state (view_of c.args.self.now) (view_of c.release.new.self) c.release.ensures.departs
-
-pub returns-clause-noting : goal.returns-clause-noting
-returns-clause-noting g c = c.release.ensures.departs.beside.noting
-
-pub returns-clause-fewer : goal.returns-clause-fewer
-returns-clause-fewer g c = departs_fewer (Some c.args.log) c.args.conn c.args.state (view_of c.args.self.now) (view_of c.release.new.self) c.release.ensures.departs
+pub returns-clause-enters : goal.returns-clause-enters
+returns-clause-enters g c = record {
+  states = λ t j. c.release.ensures.departs.states j t;
+  shrinks = departs_owed (Some c.args.log) c.args.conn c.args.state (view_of c.args.self.now) (view_of c.release.new.self) c.release.ensures.departs;
+  noting = c.release.ensures.departs.beside.noting;
+  fewer = departs_fewer (Some c.args.log) c.args.conn c.args.state (view_of c.args.self.now) (view_of c.release.new.self) c.release.ensures.departs;
+}
 
 pub returns-clause-left : goal.returns-clause-left
 returns-clause-left g c told before m out at is =

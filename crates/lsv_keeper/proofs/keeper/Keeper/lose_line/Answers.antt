@@ -1,4 +1,4 @@
-use Rattle.std.proofs.Common.{◌≡◌, refl, sym, ◌∙◌, ap}
+use Rattle.std.proofs.Common.{◌≡◌, refl, sym, ◌∙◌, ap, arith}
 use Rattle.std.specs.Prelude.{false}
 use Rattle.lsv_session.specs.declared.connection.ConnState.{ConnState}
 use Rattle.lsv_session.specs.declared.connection.ConnState.TheVariants.{Fresh, Greeted, Alerted, Running, Dead}
@@ -9,6 +9,8 @@ use Rattle.lsv_keeper.proofs.Causes.{does_none}
 use Rattle.lsv_keeper.proofs.Saying.{says_as, says_none, says_told}
 use Rattle.lsv_request.specs.declared.refusal.Refusal.TheVariants.{DeviceFault}
 use Rattle.lsv_keeper.specs.declared.told.Told.TheVariants as told
+use Rattle.lsv_keeper.proofs.Syncing.{nothing}
+use Rattle.lsv_keeper.specs.Syncing.{NoLog}
 use Rattle.lsv_keeper.proofs.keeper.Keeper.lose_line.Goals as goal
 
 living : (s : ConnState) → (s ≡ Dead → ⊥) → is_dead s ≡ false
@@ -24,26 +26,35 @@ returns-in-Dead-clause-refused g c = λ told m at. refuses_no_more c.args.conn (
     (ap is_dead (at.states c.args.conn ∙ sym c.state.ensures ∙ c.in-Dead.is))
 
 pub returns-clause-noting : goal.returns-clause-noting
-returns-clause-noting g c = c.leave.ensures.noting
+returns-clause-noting g c = c.enter_state.ensures.enters.noting
 
-pub returns-clause-fewer : goal.returns-clause-fewer
-returns-clause-fewer g c = c.leave.ensures.fewer
+pub returns-clause-frame : goal.returns-clause-frame
+returns-clause-frame g c = record {
+  set = let k = c.enter_state.ensures.frame.keeps in record { lane = k.lane; lanes = k.lanes; log_exit = k.log_exit; kind = k.kind; texts = k.texts };
+  fewer = c.enter_state.ensures.enters.fewer;
+  places = c.enter_state.ensures.frame.keeps.room_is;
+  replies = let r = c.put_replies.ensures.room in omega (arith, r);
+  syncs = c.enter_state.ensures.frame.syncs;
+  does = c.enter_state.ensures.frame.does;
+}
 
 pub returns-clause-refused : goal.returns-clause-refused
-returns-clause-refused g c = λ told m at. refuses_one c.args.conn (view_of c.args.self.now) (view_of c.leave.new.self) m (g.D.Disk.view c.args.disk.now) (g.D.Disk.view c.leave.new.disk) c.args.out.now.items c.put_replies.new.out.items c.put_replies.ensures.told.0
+returns-clause-refused g c = λ told m at. refuses_one c.args.conn (view_of c.args.self.now) (view_of c.enter_state.new.self) m (g.D.Disk.view c.args.disk.now) (g.D.Disk.view c.enter_state.new.disk) c.args.out.now.items c.put_replies.new.out.items c.put_replies.ensures.told.0
     (record { reads_itself = g.met.D.Disk.reads_itself told c.args.disk.now; is_now = g.met.D.Disk.is_now told c.args.disk.now; only_now = g.met.D.Disk.only_now told c.args.disk.now }) at
-    (living (m.states c.args.conn) (λ e. c.in_default.not-Dead (c.state.ensures ∙ sym (at.states c.args.conn) ∙ e))) (c.leave.ensures.left told m at) c.put_replies.ensures.told.1 c.put_replies.ensures.told.2
+    (living (m.states c.args.conn) (λ e. c.in_default.not-Dead (c.state.ensures ∙ sym (at.states c.args.conn) ∙ e))) (c.enter_state.ensures.left told m at) c.put_replies.ensures.told.1 c.put_replies.ensures.told.2
 
--- ---- Over every disk
-
-pub returns-in-Dead-clause-does : goal.returns-in-Dead-clause-does
-returns-in-Dead-clause-does g c = does_none (λ none. none)
+pub returns-in-Dead-clause-frame : goal.returns-in-Dead-clause-frame
+returns-in-Dead-clause-frame g c = record {
+  set = record { lane = refl; lanes = refl; log_exit = refl; kind = refl; texts = refl };
+  fewer = omega arith;
+  places = omega arith;
+  replies = omega arith;
+  syncs = λ told m at. nothing NoLog (view_of c.args.self.now) (view_of c.args.self.now) (g.D.Disk.view c.args.disk.now) refl refl;
+  does = does_none (λ none. none);
+}
 
 pub returns-in-Dead-clause-says : goal.returns-in-Dead-clause-says
 returns-in-Dead-clause-says g c = says_none _ (λ k. Unit {0}) c.args.out.now.items
-
-pub returns-clause-does : goal.returns-clause-does
-returns-clause-does g c = c.leave.ensures.does
 
 pub returns-clause-says : goal.returns-clause-says
 returns-clause-says g c =

@@ -44,51 +44,43 @@ pub loop-conn-preserved : goal.loop-conn-preserved
 loop-conn-preserved g c = record {
   refusing = refusing_on g.D.Disk.tells c.loop-conn.conn-index _ c.deref-conn-items.result.now (view_of c.args.self.now) (view_of c.loop-conn.self) (view_of c.lose_line.new.self) (room_in c.args.out.now) (room_in c.loop-conn.out) (room_in c.lose_line.new.out)
       c.args.out.now.items c.loop-conn.out.items c.lose_line.new.out.items (g.D.Disk.view c.args.disk.now) (g.D.Disk.view c.loop-conn.disk) (g.D.Disk.view c.lose_line.new.disk) c.loop-conn-test.true (get_or_default _ _ _ _ c.loop-conn-test.true)
-      c.loop-conn.invariant.refusing c.lose_line.ensures.set c.lose_line.ensures.noting c.lose_line.ensures.fewer c.lose_line.ensures.places c.lose_line.ensures.room c.lose_line.ensures.refused;
+      c.loop-conn.invariant.refusing c.lose_line.ensures.frame.set c.lose_line.ensures.noting c.lose_line.ensures.frame.fewer c.lose_line.ensures.frame.places c.lose_line.ensures.frame.replies c.lose_line.ensures.refused;
   synced = λ told m at.
       let d = c.loop-conn.invariant.refusing.gives told m at in
       followed NoLog (view_of c.args.self.now) (view_of c.loop-conn.self) (view_of c.lose_line.new.self) (g.D.Disk.view c.args.disk.now) (g.D.Disk.view c.loop-conn.disk) (g.D.Disk.view c.lose_line.new.disk)
-      (c.loop-conn.invariant.synced told m at) (c.lose_line.ensures.syncs told d.after d.represents);
-  kept = does_then (λ none. absurd none) c.loop-conn.invariant.kept c.lose_line.ensures.does;
+      (c.loop-conn.invariant.synced told m at) (c.lose_line.ensures.frame.syncs told d.after d.represents);
+  kept = does_then (λ none. absurd none) c.loop-conn.invariant.kept c.lose_line.ensures.frame.does;
   says = λ p all.
       says_then (IsAmong p) (λ k. Unit {0}) c.args.out.now.items c.loop-conn.out.items c.lose_line.new.out.items (c.loop-conn.invariant.says p all)
       (says_as (λ j. j ≡ _) (IsAmong p) (λ k. Unit {0}) (λ k. Unit {0}) c.loop-conn.out.items c.lose_line.new.out.items (λ j is. subst (IsAmong p) (sym is) (all_at (IsAmong p) c.deref-conn-items.result.now c.loop-conn.conn-index _ c.loop-conn-test.true (get_or_default _ _ _ _ c.loop-conn-test.true) all)) (λ k is t. t) c.lose_line.ensures.says);
 }
 
-pub returns-clause-set : goal.returns-clause-set
-returns-clause-set g c = c.loop-conn.invariant.refusing.set
+pub returns-clause-frame : goal.returns-clause-frame
+returns-clause-frame g c = record {
+  set = let s = c.loop-conn.invariant.refusing.set in record { lane = s.lane; lanes = s.lanes; log_exit = s.log_exit; kind = s.kind; texts = s.texts };
+  fewer = c.loop-conn.invariant.refusing.fewer;
+  places =
+      let is : c.args.self.now.noting.items ≡ c.deref-conn-items.result.now = (ap (λ (x : Vec ConnId). x.items) (sym c.replace-noting.ensures.value) ∙ sym c.deref-conn-items.ensures.value) in
+      let e : length c.args.self.now.noting.items ≡ length c.deref-conn-items.result.now = ap length is in
+      let ends : c.loop-conn.conn-index ≡ length c.deref-conn-items.result.now = omega (arith, c.loop-conn-test.false, c.loop-conn.auto.conn-index-end) in
+      omega (arith, c.loop-conn.invariant.refusing.places, ends, e);
+  replies =
+      let is : c.args.self.now.noting.items ≡ c.deref-conn-items.result.now = (ap (λ (x : Vec ConnId). x.items) (sym c.replace-noting.ensures.value) ∙ sym c.deref-conn-items.ensures.value) in
+      let e : length c.args.self.now.noting.items ≡ length c.deref-conn-items.result.now = ap length is in
+      let ends : c.loop-conn.conn-index ≡ length c.deref-conn-items.result.now = omega (arith, c.loop-conn-test.false, c.loop-conn.auto.conn-index-end) in
+      omega (arith, c.loop-conn.invariant.refusing.replies, ends, e);
+  syncs = λ told m at. let s = c.loop-conn.invariant.synced told m at in record { past = s.past; each = s.each };
+  does = c.loop-conn.invariant.kept;
+}
 
 pub returns-clause-none : goal.returns-clause-none
 returns-clause-none g c = c.loop-conn.invariant.refusing.none
-
-pub returns-clause-fewer : goal.returns-clause-fewer
-returns-clause-fewer g c = c.loop-conn.invariant.refusing.fewer
-
-pub returns-clause-places : goal.returns-clause-places
-returns-clause-places g c =
-    let is : c.args.self.now.noting.items ≡ c.deref-conn-items.result.now = (ap (λ (x : Vec ConnId). x.items) (sym c.replace-noting.ensures.value) ∙ sym c.deref-conn-items.ensures.value) in
-    let e : length c.args.self.now.noting.items ≡ length c.deref-conn-items.result.now = ap length is in
-    let ends : c.loop-conn.conn-index ≡ length c.deref-conn-items.result.now = omega (arith, c.loop-conn-test.false, c.loop-conn.auto.conn-index-end) in
-    omega (arith, c.loop-conn.invariant.refusing.places, ends, e)
-
-pub returns-clause-room : goal.returns-clause-room
-returns-clause-room g c =
-    let is : c.args.self.now.noting.items ≡ c.deref-conn-items.result.now = (ap (λ (x : Vec ConnId). x.items) (sym c.replace-noting.ensures.value) ∙ sym c.deref-conn-items.ensures.value) in
-    let e : length c.args.self.now.noting.items ≡ length c.deref-conn-items.result.now = ap length is in
-    let ends : c.loop-conn.conn-index ≡ length c.deref-conn-items.result.now = omega (arith, c.loop-conn-test.false, c.loop-conn.auto.conn-index-end) in
-    omega (arith, c.loop-conn.invariant.refusing.replies, ends, e)
 
 pub returns-clause-refused : goal.returns-clause-refused
 returns-clause-refused g c = λ told m at. refusing_ends g.D.Disk.tells c.deref-conn-items.result.now (view_of c.args.self.now) (view_of c.loop-conn.self) (room_in c.args.out.now) (room_in c.loop-conn.out) c.args.out.now.items c.loop-conn.out.items
     (g.D.Disk.view c.args.disk.now) (g.D.Disk.view c.loop-conn.disk) c.loop-conn.conn-index (omega (arith, c.loop-conn-test.false, c.loop-conn.auto.conn-index-end)) (ap (λ (x : Vec ConnId). x.items) (sym c.replace-noting.ensures.value) ∙ sym c.deref-conn-items.ensures.value) c.loop-conn.invariant.refusing told m at
 
-pub returns-clause-syncs : goal.returns-clause-syncs
-returns-clause-syncs g c told m at = c.loop-conn.invariant.synced told m at
-
 -- ---- Over every disk
-
-pub returns-clause-does : goal.returns-clause-does
-returns-clause-does g c = c.loop-conn.invariant.kept
 
 pub returns-clause-says : goal.returns-clause-says
 returns-clause-says g c p all = c.loop-conn.invariant.says p (subst (AllByRecursion (IsAmong p)) (ap (λ (x : Vec ConnId). x.items) (sym c.replace-noting.ensures.value) ∙ sym c.deref-conn-items.ensures.value) all)

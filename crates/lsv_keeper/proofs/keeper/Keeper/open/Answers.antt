@@ -17,21 +17,21 @@ returns-clause-read g c told = (c.in_ok-numbers.ensures.opened told).read
 
 pub returns-clause-held : goal.returns-clause-held
 returns-clause-held g c told =
-    lines_alike c.args.lane _ (g.D.Disk.view c.args.disk.now) (g.D.Disk.view c.open_numbers.new.disk) _ (c.open_numbers.ensures.run told) (c.in_ok-events.ensures.opened told).held
+    lines_alike c.args.lane.number _ (g.D.Disk.view c.args.disk.now) (g.D.Disk.view c.open_numbers.new.disk) _ (c.open_numbers.ensures.run told) (c.in_ok-events.ensures.opened told).held
 
 pub returns-clause-touched : goal.returns-clause-touched
 returns-clause-touched g c told =
-    both_run c.args.lane _ _ (g.D.Disk.view c.args.disk.now) (g.D.Disk.view c.open_numbers.new.disk) (g.D.Disk.view c.open_events.new.disk) (c.open_numbers.ensures.run told) (c.open_events.ensures.run told)
+    both_run c.args.lane.number _ _ (g.D.Disk.view c.args.disk.now) (g.D.Disk.view c.open_numbers.new.disk) (g.D.Disk.view c.open_events.new.disk) (c.open_numbers.ensures.run told) (c.open_events.ensures.run told)
 
 pub returns-clause-store : goal.returns-clause-store
 returns-clause-store g c told =
-    store_on c.args.lane c.args.lanes (g.D.Disk.view c.args.disk.now) (g.D.Disk.view c.open_numbers.new.disk) (g.D.Disk.view c.open_events.new.disk)
-    (c.open_numbers.ensures.store told) (c.open_events.ensures.store told c.args.lanes)
+    store_on c.args.lane.number c.args.lane.of (g.D.Disk.view c.args.disk.now) (g.D.Disk.view c.open_numbers.new.disk) (g.D.Disk.view c.open_events.new.disk)
+    (c.open_numbers.ensures.store told) (c.open_events.ensures.store told c.args.lane.of)
 
 pub returns-clause-kept : goal.returns-clause-kept
 returns-clause-kept g c told some =
     let mid = c.open_numbers.new.disk in
-    entry_on c.args.lane _ (g.D.Disk.view c.args.disk.now) (g.D.Disk.view mid) (g.D.Disk.view c.open_events.new.disk)
+    entry_on c.args.lane.number _ (g.D.Disk.view c.args.disk.now) (g.D.Disk.view mid) (g.D.Disk.view c.open_events.new.disk)
     (record { reads_itself = g.met.D.Disk.reads_itself told mid; is_now = g.met.D.Disk.is_now told mid; only_now = g.met.D.Disk.only_now told mid })
     (c.open_numbers.ensures.run told).later (c.open_numbers.ensures.kept told some) (c.open_events.ensures.run told)
 
@@ -41,7 +41,7 @@ returns-clause-opened g c told fit =
     opens_as _ (g.D.Disk.view old) (g.D.Disk.view c.open_numbers.new.disk) (g.D.Disk.view c.open_events.new.disk) _ _
     (record { reads_itself = g.met.D.Disk.reads_itself told old; is_now = g.met.D.Disk.is_now told old; only_now = g.met.D.Disk.only_now told old })
     c.requires.lane c.requires.lanes (c.in_ok-numbers.ensures.opened told) (c.in_ok-events.ensures.opened told) (c.open_numbers.ensures.run told) (c.open_events.ensures.run told)
-    (c.open_numbers.ensures.store told) (c.open_events.ensures.store told c.args.lanes) fit c.new-table.ensures c.new-logs.ensures c.new-waiting.ensures.items c.new-noting.ensures.items
+    (c.open_numbers.ensures.store told) (c.open_events.ensures.store told c.args.lane.of) fit c.new-table.ensures c.new-logs.ensures c.new-waiting.ensures.items c.new-noting.ensures.items
 
 pub returns-clause-cause : goal.returns-clause-cause
 returns-clause-cause g c o = record {
@@ -58,32 +58,32 @@ returns-in_err-numbers-clause-cause g c o =
     }
 
 pub returns-in_err-numbers-clause-touched : goal.returns-in_err-numbers-clause-touched
-returns-in_err-numbers-clause-touched g c told = numbers_run c.args.lane _ (g.D.Disk.view c.args.disk.now) (g.D.Disk.view c.open_numbers.new.disk) (c.open_numbers.ensures.run told)
+returns-in_err-numbers-clause-touched g c told = numbers_run c.args.lane.number _ (g.D.Disk.view c.args.disk.now) (g.D.Disk.view c.open_numbers.new.disk) (c.open_numbers.ensures.run told)
 
 pub returns-in_err-events-clause-touched : goal.returns-in_err-events-clause-touched
 returns-in_err-events-clause-touched g c told =
-    both_run c.args.lane _ _ (g.D.Disk.view c.args.disk.now) (g.D.Disk.view c.open_numbers.new.disk) (g.D.Disk.view c.open_events.new.disk) (c.open_numbers.ensures.run told) (c.open_events.ensures.run told)
+    both_run c.args.lane.number _ _ (g.D.Disk.view c.args.disk.now) (g.D.Disk.view c.open_numbers.new.disk) (g.D.Disk.view c.open_events.new.disk) (c.open_numbers.ensures.run told) (c.open_events.ensures.run told)
 
 pub returns-in_err-events-clause-fault : goal.returns-in_err-events-clause-fault
 returns-in_err-events-clause-fault g c told =
     let old = g.D.Disk.view c.args.disk.now in
     let mid = g.D.Disk.view c.open_numbers.new.disk in
     let fault = c.in_err-events.field-0.0 in
-    passed (IsStoreFault c.args.lane c.args.lanes old.reads) c.from_residual-in_err-events.result fault c.from_residual-in_err-events.ensures.1
+    passed (IsStoreFault c.args.lane.number c.args.lane.of old.reads) c.from_residual-in_err-events.result fault c.from_residual-in_err-events.ensures.1
     (inr (
       (last_of c.in_ok-numbers.numbers, (c.in_ok-numbers.ensures.opened told).read),
-      fault_alike c.args.lane mid.reads old.reads fault (events_alike c.args.lane _ old mid (c.open_numbers.ensures.run told)) (c.in_err-events.ensures.fault told),
+      fault_alike c.args.lane.number mid.reads old.reads fault (events_alike c.args.lane.number _ old mid (c.open_numbers.ensures.run told)) (c.in_err-events.ensures.fault told),
     ))
 
 pub returns-in_err-events-clause-store : goal.returns-in_err-events-clause-store
 returns-in_err-events-clause-store g c told =
-    store_on c.args.lane c.args.lanes (g.D.Disk.view c.args.disk.now) (g.D.Disk.view c.open_numbers.new.disk) (g.D.Disk.view c.open_events.new.disk)
-    (c.open_numbers.ensures.store told) (c.open_events.ensures.store told c.args.lanes)
+    store_on c.args.lane.number c.args.lane.of (g.D.Disk.view c.args.disk.now) (g.D.Disk.view c.open_numbers.new.disk) (g.D.Disk.view c.open_events.new.disk)
+    (c.open_numbers.ensures.store told) (c.open_events.ensures.store told c.args.lane.of)
 
 pub returns-in_err-events-clause-kept : goal.returns-in_err-events-clause-kept
 returns-in_err-events-clause-kept g c told some =
     let mid = c.open_numbers.new.disk in
-    entry_on c.args.lane _ (g.D.Disk.view c.args.disk.now) (g.D.Disk.view mid) (g.D.Disk.view c.open_events.new.disk)
+    entry_on c.args.lane.number _ (g.D.Disk.view c.args.disk.now) (g.D.Disk.view mid) (g.D.Disk.view c.open_events.new.disk)
     (record { reads_itself = g.met.D.Disk.reads_itself told mid; is_now = g.met.D.Disk.is_now told mid; only_now = g.met.D.Disk.only_now told mid })
     (c.open_numbers.ensures.run told).later (c.open_numbers.ensures.kept told some) (c.open_events.ensures.run told)
 

@@ -22,8 +22,8 @@ use Rattle.lsv_request.specs.declared.refusal.Refusal.TheVariants.{DeviceFault}
 use Rattle.lsv_keeper.specs.Logs.{open_logs}
 use Rattle.lsv_keeper.proofs.keeper.Keeper.take_record.Goals as goal
 
-pub let_refused-requires : goal.let_refused-requires
-let_refused-requires g c = record {
+pub release_refused-requires : goal.release_refused-requires
+release_refused-requires g c = record {
   moved = λ told_is.
       let (m, at) = c.requires.stands told_is in
       let (was, left, here, no_room, put) = c.in-Refused.ensures in
@@ -46,17 +46,17 @@ returns-in-Staged-clause-row g c told_is m job now at is state asks =
     (given_ok c.insert_once.result _ (c.insert_once.ensures.room c.requires.waiting) c.insert_once.ensures.inserted)
 
 pub returns-in-Refused-clause-keeps : goal.returns-in-Refused-clause-keeps
-returns-in-Refused-clause-keeps g c = keeps_from (view_of c.args.self.now) (view_of c.let_refused.new.self) c.append.new.self c.let_refused.ensures.keeps
+returns-in-Refused-clause-keeps g c = keeps_from (view_of c.args.self.now) (view_of c.release_refused.new.self) c.append.new.self c.release_refused.ensures.keeps
 
 pub returns-in-Refused-clause-row : goal.returns-in-Refused-clause-row
 returns-in-Refused-clause-row g c told_is m job now at is state asks =
     let v : KeeperView = view_of c.args.self.now in
-    let v' : KeeperView = view_of c.let_refused.new.self in
+    let v' : KeeperView = view_of c.release_refused.new.self in
     let old : DiskView = g.D.Disk.view c.args.disk.now in
-    let new : DiskView = g.D.Disk.view c.let_refused.new.disk in
+    let new : DiskView = g.D.Disk.view c.release_refused.new.disk in
     let laws : Laws old = record { reads_itself = g.met.D.Disk.reads_itself told_is c.args.disk.now; is_now = g.met.D.Disk.is_now told_is c.args.disk.now; only_now = g.met.D.Disk.only_now told_is c.args.disk.now } in
     let (was, its, here, no_room, put) = c.in-Refused.ensures in
-    let left = c.let_refused.ensures.left told_is v its m (refused_moved v c.append.new.self c.args.log c.args.r was its c.in-Refused.fault here no_room put) at state in
+    let left = c.release_refused.ensures.left told_is v its m (refused_moved v c.append.new.self c.args.log c.args.r was its c.in-Refused.fault here no_room put) at state in
     subst (λ (why : Refusal). RowGives v now job (told.Refused why) m v' old new) (sym c.log_refusal.ensures)
     (record_refused v v' now job c.args.log c.args.r was its c.in-Refused.fault m old new laws at
     (subst (λ (k : ConnId). AsksFor (m.states k) job.body (request.Record c.args.r)) (sym is) asks) (subst (λ (k : ConnId). log_of (m.states k) ≡ Some c.args.log) (sym is) state) here no_room
@@ -76,7 +76,7 @@ pub returns-in-Refused-clause-syncs : goal.returns-in-Refused-clause-syncs
 returns-in-Refused-clause-syncs g c told_is m at state =
     let v : KeeperView = view_of c.args.self.now in
     let (was, its, here, no_room, put) = c.in-Refused.ensures in
-    c.let_refused.ensures.syncs told_is v its m (refused_moved v c.append.new.self c.args.log c.args.r was its c.in-Refused.fault here no_room put) at state
+    c.release_refused.ensures.syncs told_is v its m (refused_moved v c.append.new.self c.args.log c.args.r was its c.in-Refused.fault here no_room put) at state
 
 pub returns-clause-syncs : goal.returns-clause-syncs
 returns-clause-syncs g c told_is m at state = nothing NoLog (view_of c.args.self.now) _ (g.D.Disk.view c.args.disk.now) refl refl
@@ -93,7 +93,7 @@ pub returns-in-Refused-clause-does : goal.returns-in-Refused-clause-does
 returns-in-Refused-clause-does g c is =
     let (was, left, here, no_room, put) = c.in-Refused.ensures in
     then_quiet (λ e. let f : c.log_refusal.result ≡ DeviceFault = cc in sym c.log_refusal.ensures ∙ f)
-    (unstaged_does (c.args.conn ∷ []) c.args.log _ c.args.r c.in-Refused.fault was left (view_of c.args.self.now) c.append.new.self (g.D.Disk.view c.args.disk.now) here no_room put) (c.let_refused.ensures.does is)
+    (unstaged_does (c.args.conn ∷ []) c.args.log _ c.args.r c.in-Refused.fault was left (view_of c.args.self.now) c.append.new.self (g.D.Disk.view c.args.disk.now) here no_room put) (c.release_refused.ensures.does is)
 
 pub returns-clause-does : goal.returns-clause-does
 returns-clause-does g c is = does_same (λ e. cc) (still (g.D.Disk.view c.args.disk.now)) refl refl refl (λ n. at_each (open_logs c.append.new.self) (open_logs c.args.self.now.logs) c.in-NotOpen.ensures.1 n) refl refl

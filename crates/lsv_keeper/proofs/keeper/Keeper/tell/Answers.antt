@@ -15,14 +15,27 @@ use Rattle.std.specs.Prelude.{Result, Err}
 use Rattle.lsv_request.specs.declared.refusal.Refusal.{Refusal}
 use Rattle.lsv_keeper.proofs.keeper.Keeper.tell.Goals as goal
 
-pub leave-requires-clause-stands : goal.leave-requires-clause-stands
-leave-requires-clause-stands g c told = let s = c.requires.stands told in (s.0, (c.in-Err.ensures.refused told s.0 s.1).1)
+abbrev err : {T : Type 0} → Refusal → Result T Refusal
+err why = Err why
 
-pub leave-requires-clause-room : goal.leave-requires-clause-room
-leave-requires-clause-room g c = room_after (view_of c.args.self.now) (view_of c.add_line.new.self) ((sessions_of (view_of c.add_line.new.self)).states c.args.conn) Dead c.add_line.ensures.same c.requires.room
+pub enter_state-requires-clause-stands : goal.enter_state-requires-clause-stands
+enter_state-requires-clause-stands g c told = let s = c.requires.stands told in (s.0, (c.in-Err.ensures.refused told s.0 s.1).1)
 
-pub returns-in-Err-clause-keeps : goal.returns-in-Err-clause-keeps
-returns-in-Err-clause-keeps g c = keeps_left (view_of c.args.self.now) (view_of c.add_line.new.self) (view_of c.leave.new.self) c.add_line.ensures.keeps c.add_line.ensures.same c.leave.ensures.keeps c.leave.ensures.shrinks
+pub enter_state-requires-clause-room : goal.enter_state-requires-clause-room
+enter_state-requires-clause-room g c = room_after (view_of c.args.self.now) (view_of c.add_line.new.self) ((sessions_of (view_of c.add_line.new.self)).states c.args.conn) Dead c.add_line.ensures.frame.same c.requires.room
+
+pub returns-in-Err-clause-frame : goal.returns-in-Err-clause-frame
+returns-in-Err-clause-frame g c = record {
+  keeps = keeps_left (view_of c.args.self.now) (view_of c.add_line.new.self) (view_of c.enter_state.new.self) c.add_line.ensures.frame.keeps c.add_line.ensures.frame.same c.enter_state.ensures.frame.keeps c.enter_state.ensures.enters.shrinks;
+  syncs = λ told m at.
+      let v : KeeperView = view_of c.args.self.now in
+      let v1 : KeeperView = view_of c.add_line.new.self in
+      let d0 = g.D.Disk.view c.args.disk.now in
+      let d1 = g.D.Disk.view c.add_line.new.disk in
+      let line = line_quiet NoLog v v1 d0 d1 c.add_line.ensures.frame.same (c.add_line.ensures.frame.syncs told) in
+      followed NoLog v v1 (view_of c.enter_state.new.self) d0 d1 (g.D.Disk.view c.enter_state.new.disk) line (c.enter_state.ensures.frame.syncs told m (c.in-Err.ensures.refused told m at).1);
+  does = then_quiet (λ e. ap (λ (w : Refusal). err w) (refused_is c.in-Err.why e)) c.in-Err.ensures.frame.does c.enter_state.ensures.frame.does;
+}
 
 pub returns-in-Err-clause-row : goal.returns-in-Err-clause-row
 returns-in-Err-clause-row g c told m job now what at e a is =
@@ -30,13 +43,23 @@ returns-in-Err-clause-row g c told m job now what at e a is =
     let d0 = c.args.disk.now in
     let d1 = c.add_line.new.disk in
     let refused = c.in-Err.ensures.refused told m at in
-    refused_at v (view_of c.add_line.new.self) (view_of c.leave.new.self) (g.D.Disk.view d0) (g.D.Disk.view d1) (g.D.Disk.view c.leave.new.disk) c.args.conn m (line_of v.kind c.args.event.now) c.args.next c.in-Err.why
+    refused_at v (view_of c.add_line.new.self) (view_of c.enter_state.new.self) (g.D.Disk.view d0) (g.D.Disk.view d1) (g.D.Disk.view c.enter_state.new.disk) c.args.conn m (line_of v.kind c.args.event.now) c.args.next c.in-Err.why
     (record { reads_itself = g.met.D.Disk.reads_itself told d0; is_now = g.met.D.Disk.is_now told d0; only_now = g.met.D.Disk.only_now told d0 })
     (record { reads_itself = g.met.D.Disk.reads_itself told d1; is_now = g.met.D.Disk.is_now told d1; only_now = g.met.D.Disk.only_now told d1 })
-    refused.1 c.add_line.ensures.keeps refused.0 (c.add_line.ensures.beside told m at) (c.leave.ensures.left told m refused.1) job now what e a is
+    refused.1 c.add_line.ensures.frame.keeps refused.0 (c.add_line.ensures.frame.beside told m at) (c.enter_state.ensures.left told m refused.1) job now what e a is
 
-pub returns-in-Stays-clause-keeps : goal.returns-in-Stays-clause-keeps
-returns-in-Stays-clause-keeps g c = c.add_line.ensures.keeps
+pub returns-in-Stays-clause-frame : goal.returns-in-Stays-clause-frame
+returns-in-Stays-clause-frame g c = record {
+  keeps = c.add_line.ensures.frame.keeps;
+  syncs = λ told m at.
+      let v : KeeperView = view_of c.args.self.now in
+      let v1 : KeeperView = view_of c.add_line.new.self in
+      let d0 = g.D.Disk.view c.args.disk.now in
+      let d1 = g.D.Disk.view c.add_line.new.disk in
+      let line = line_quiet NoLog v v1 d0 d1 c.add_line.ensures.frame.same (c.add_line.ensures.frame.syncs told) in
+      line;
+  does = does_as (λ e. absurd (cc)) c.in_default.ensures.frame.does;
+}
 
 pub returns-in-Stays-clause-row : goal.returns-in-Stays-clause-row
 returns-in-Stays-clause-row g c told m job now what at e a is =
@@ -45,20 +68,30 @@ returns-in-Stays-clause-row g c told m job now what at e a is =
     let added = c.in_default.ensures.added told m at in
     stays_at v (view_of c.add_line.new.self) (g.D.Disk.view d0) (g.D.Disk.view c.add_line.new.disk) c.args.conn m (line_of v.kind c.args.event.now)
     (record { reads_itself = g.met.D.Disk.reads_itself told d0; is_now = g.met.D.Disk.is_now told d0; only_now = g.met.D.Disk.only_now told d0 })
-    (c.add_line.ensures.beside told m at) added.0 added.1 job now what e a
+    (c.add_line.ensures.frame.beside told m at) added.0 added.1 job now what e a
     (subst (λ (x : Next). IsEventOf (settings_of v) now c.args.conn (m.states c.args.conn) what (line_of v.kind c.args.event.now) x m) c.in-Stays.is is)
 
-pub leave-requires-in-Enters-clause-stands : goal.leave-requires-in-Enters-clause-stands
-leave-requires-in-Enters-clause-stands g c told = let s = c.requires.stands told in (adds_line c.args.conn (line_of (view_of c.args.self.now).kind c.args.event.now) s.0, (c.in_default.ensures.added told s.0 s.1).1)
+pub enter_state-requires-in-Enters-clause-stands : goal.enter_state-requires-in-Enters-clause-stands
+enter_state-requires-in-Enters-clause-stands g c told = let s = c.requires.stands told in (adds_line c.args.conn (line_of (view_of c.args.self.now).kind c.args.event.now) s.0, (c.in_default.ensures.added told s.0 s.1).1)
 
-pub leave-requires-in-Enters-clause-writes_none : goal.leave-requires-in-Enters-clause-writes_none
-leave-requires-in-Enters-clause-writes_none g c = subst EntersNoLog c.in-Enters.is c.requires.writes_none
+pub enter_state-requires-in-Enters-clause-writes_none : goal.enter_state-requires-in-Enters-clause-writes_none
+enter_state-requires-in-Enters-clause-writes_none g c = subst EntersNoLog c.in-Enters.is c.requires.writes_none
 
-pub leave-requires-in-Enters-clause-room : goal.leave-requires-in-Enters-clause-room
-leave-requires-in-Enters-clause-room g c = room_after (view_of c.args.self.now) (view_of c.add_line.new.self) ((sessions_of (view_of c.add_line.new.self)).states c.args.conn) c.in-Enters.state c.add_line.ensures.same c.requires.room
+pub enter_state-requires-in-Enters-clause-room : goal.enter_state-requires-in-Enters-clause-room
+enter_state-requires-in-Enters-clause-room g c = room_after (view_of c.args.self.now) (view_of c.add_line.new.self) ((sessions_of (view_of c.add_line.new.self)).states c.args.conn) c.in-Enters.state c.add_line.ensures.frame.same c.requires.room
 
-pub returns-in-Enters-clause-keeps : goal.returns-in-Enters-clause-keeps
-returns-in-Enters-clause-keeps g c = keeps_left (view_of c.args.self.now) (view_of c.add_line.new.self) (view_of c.leave-in-Enters.new.self) c.add_line.ensures.keeps c.add_line.ensures.same c.leave-in-Enters.ensures.keeps c.leave-in-Enters.ensures.shrinks
+pub returns-in-Enters-clause-frame : goal.returns-in-Enters-clause-frame
+returns-in-Enters-clause-frame g c = record {
+  keeps = keeps_left (view_of c.args.self.now) (view_of c.add_line.new.self) (view_of c.enter_state-in-Enters.new.self) c.add_line.ensures.frame.keeps c.add_line.ensures.frame.same c.enter_state-in-Enters.ensures.frame.keeps c.enter_state-in-Enters.ensures.enters.shrinks;
+  syncs = λ told m at.
+      let v : KeeperView = view_of c.args.self.now in
+      let v1 : KeeperView = view_of c.add_line.new.self in
+      let d0 = g.D.Disk.view c.args.disk.now in
+      let d1 = g.D.Disk.view c.add_line.new.disk in
+      let line = line_quiet NoLog v v1 d0 d1 c.add_line.ensures.frame.same (c.add_line.ensures.frame.syncs told) in
+      followed NoLog v v1 (view_of c.enter_state-in-Enters.new.self) d0 d1 (g.D.Disk.view c.enter_state-in-Enters.new.disk) line (c.enter_state-in-Enters.ensures.frame.syncs told (adds_line c.args.conn (line_of v.kind c.args.event.now) m) (c.in_default.ensures.added told m at).1);
+  does = then_quiet (λ e. absurd (cc)) c.in_default.ensures.frame.does c.enter_state-in-Enters.ensures.frame.does;
+}
 
 pub returns-in-Enters-clause-row : goal.returns-in-Enters-clause-row
 returns-in-Enters-clause-row g c told m job now what at e a is =
@@ -66,19 +99,29 @@ returns-in-Enters-clause-row g c told m job now what at e a is =
     let d0 = c.args.disk.now in
     let added = c.in_default.ensures.added told m at in
     let line = line_of v.kind c.args.event.now in
-    enters_at v (view_of c.add_line.new.self) (view_of c.leave-in-Enters.new.self) (g.D.Disk.view d0) (g.D.Disk.view c.add_line.new.disk) (g.D.Disk.view c.leave-in-Enters.new.disk) c.args.conn m line c.in-Enters.state
+    enters_at v (view_of c.add_line.new.self) (view_of c.enter_state-in-Enters.new.self) (g.D.Disk.view d0) (g.D.Disk.view c.add_line.new.disk) (g.D.Disk.view c.enter_state-in-Enters.new.disk) c.args.conn m line c.in-Enters.state
     (record { reads_itself = g.met.D.Disk.reads_itself told d0; is_now = g.met.D.Disk.is_now told d0; only_now = g.met.D.Disk.only_now told d0 })
-    c.add_line.ensures.keeps (c.add_line.ensures.beside told m at) added.0 (c.leave-in-Enters.ensures.left told (adds_line c.args.conn line m) added.1) job now what e a
+    c.add_line.ensures.frame.keeps (c.add_line.ensures.frame.beside told m at) added.0 (c.enter_state-in-Enters.ensures.left told (adds_line c.args.conn line m) added.1) job now what e a
     (subst (λ (x : Next). IsEventOf (settings_of v) now c.args.conn (m.states c.args.conn) what line x m) c.in-Enters.is is)
 
-pub leave-requires-in-Ends-clause-stands : goal.leave-requires-in-Ends-clause-stands
-leave-requires-in-Ends-clause-stands g c told = let s = c.requires.stands told in (adds_line c.args.conn (line_of (view_of c.args.self.now).kind c.args.event.now) s.0, (c.in_default.ensures.added told s.0 s.1).1)
+pub enter_state-requires-in-Ends-clause-stands : goal.enter_state-requires-in-Ends-clause-stands
+enter_state-requires-in-Ends-clause-stands g c told = let s = c.requires.stands told in (adds_line c.args.conn (line_of (view_of c.args.self.now).kind c.args.event.now) s.0, (c.in_default.ensures.added told s.0 s.1).1)
 
-pub leave-requires-in-Ends-clause-room : goal.leave-requires-in-Ends-clause-room
-leave-requires-in-Ends-clause-room g c = room_after (view_of c.args.self.now) (view_of c.add_line.new.self) ((sessions_of (view_of c.add_line.new.self)).states c.args.conn) Dead c.add_line.ensures.same c.requires.room
+pub enter_state-requires-in-Ends-clause-room : goal.enter_state-requires-in-Ends-clause-room
+enter_state-requires-in-Ends-clause-room g c = room_after (view_of c.args.self.now) (view_of c.add_line.new.self) ((sessions_of (view_of c.add_line.new.self)).states c.args.conn) Dead c.add_line.ensures.frame.same c.requires.room
 
-pub returns-in-Ends-clause-keeps : goal.returns-in-Ends-clause-keeps
-returns-in-Ends-clause-keeps g c = keeps_left (view_of c.args.self.now) (view_of c.add_line.new.self) (view_of c.leave-in-Ends.new.self) c.add_line.ensures.keeps c.add_line.ensures.same c.leave-in-Ends.ensures.keeps c.leave-in-Ends.ensures.shrinks
+pub returns-in-Ends-clause-frame : goal.returns-in-Ends-clause-frame
+returns-in-Ends-clause-frame g c = record {
+  keeps = keeps_left (view_of c.args.self.now) (view_of c.add_line.new.self) (view_of c.enter_state-in-Ends.new.self) c.add_line.ensures.frame.keeps c.add_line.ensures.frame.same c.enter_state-in-Ends.ensures.frame.keeps c.enter_state-in-Ends.ensures.enters.shrinks;
+  syncs = λ told m at.
+      let v : KeeperView = view_of c.args.self.now in
+      let v1 : KeeperView = view_of c.add_line.new.self in
+      let d0 = g.D.Disk.view c.args.disk.now in
+      let d1 = g.D.Disk.view c.add_line.new.disk in
+      let line = line_quiet NoLog v v1 d0 d1 c.add_line.ensures.frame.same (c.add_line.ensures.frame.syncs told) in
+      followed NoLog v v1 (view_of c.enter_state-in-Ends.new.self) d0 d1 (g.D.Disk.view c.enter_state-in-Ends.new.disk) line (c.enter_state-in-Ends.ensures.frame.syncs told (adds_line c.args.conn (line_of v.kind c.args.event.now) m) (c.in_default.ensures.added told m at).1);
+  does = then_quiet (λ e. absurd (cc)) c.in_default.ensures.frame.does c.enter_state-in-Ends.ensures.frame.does;
+}
 
 pub returns-in-Ends-clause-row : goal.returns-in-Ends-clause-row
 returns-in-Ends-clause-row g c told m job now what at e a is =
@@ -86,60 +129,7 @@ returns-in-Ends-clause-row g c told m job now what at e a is =
     let d0 = c.args.disk.now in
     let added = c.in_default.ensures.added told m at in
     let line = line_of v.kind c.args.event.now in
-    ends_at v (view_of c.add_line.new.self) (view_of c.leave-in-Ends.new.self) (g.D.Disk.view d0) (g.D.Disk.view c.add_line.new.disk) (g.D.Disk.view c.leave-in-Ends.new.disk) c.args.conn m line
+    ends_at v (view_of c.add_line.new.self) (view_of c.enter_state-in-Ends.new.self) (g.D.Disk.view d0) (g.D.Disk.view c.add_line.new.disk) (g.D.Disk.view c.enter_state-in-Ends.new.disk) c.args.conn m line
     (record { reads_itself = g.met.D.Disk.reads_itself told d0; is_now = g.met.D.Disk.is_now told d0; only_now = g.met.D.Disk.only_now told d0 })
-    c.add_line.ensures.keeps (c.add_line.ensures.beside told m at) added.0 (c.leave-in-Ends.ensures.left told (adds_line c.args.conn line m) added.1) job now what e a
+    c.add_line.ensures.frame.keeps (c.add_line.ensures.frame.beside told m at) added.0 (c.enter_state-in-Ends.ensures.left told (adds_line c.args.conn line m) added.1) job now what e a
     (subst (λ (x : Next). IsEventOf (settings_of v) now c.args.conn (m.states c.args.conn) what line x m) c.in-Ends.is is)
-
-pub returns-in-Err-clause-syncs : goal.returns-in-Err-clause-syncs
-returns-in-Err-clause-syncs g c told m at =
-    let v : KeeperView = view_of c.args.self.now in
-    let v1 : KeeperView = view_of c.add_line.new.self in
-    let d0 = g.D.Disk.view c.args.disk.now in
-    let d1 = g.D.Disk.view c.add_line.new.disk in
-    let line = line_quiet NoLog v v1 d0 d1 c.add_line.ensures.same (c.add_line.ensures.syncs told) in
-    followed NoLog v v1 (view_of c.leave.new.self) d0 d1 (g.D.Disk.view c.leave.new.disk) line (c.leave.ensures.syncs told m (c.in-Err.ensures.refused told m at).1)
-
-pub returns-in-Stays-clause-syncs : goal.returns-in-Stays-clause-syncs
-returns-in-Stays-clause-syncs g c told m at =
-    let v : KeeperView = view_of c.args.self.now in
-    let v1 : KeeperView = view_of c.add_line.new.self in
-    let d0 = g.D.Disk.view c.args.disk.now in
-    let d1 = g.D.Disk.view c.add_line.new.disk in
-    let line = line_quiet NoLog v v1 d0 d1 c.add_line.ensures.same (c.add_line.ensures.syncs told) in
-    line
-
-pub returns-in-Enters-clause-syncs : goal.returns-in-Enters-clause-syncs
-returns-in-Enters-clause-syncs g c told m at =
-    let v : KeeperView = view_of c.args.self.now in
-    let v1 : KeeperView = view_of c.add_line.new.self in
-    let d0 = g.D.Disk.view c.args.disk.now in
-    let d1 = g.D.Disk.view c.add_line.new.disk in
-    let line = line_quiet NoLog v v1 d0 d1 c.add_line.ensures.same (c.add_line.ensures.syncs told) in
-    followed NoLog v v1 (view_of c.leave-in-Enters.new.self) d0 d1 (g.D.Disk.view c.leave-in-Enters.new.disk) line (c.leave-in-Enters.ensures.syncs told (adds_line c.args.conn (line_of v.kind c.args.event.now) m) (c.in_default.ensures.added told m at).1)
-
-pub returns-in-Ends-clause-syncs : goal.returns-in-Ends-clause-syncs
-returns-in-Ends-clause-syncs g c told m at =
-    let v : KeeperView = view_of c.args.self.now in
-    let v1 : KeeperView = view_of c.add_line.new.self in
-    let d0 = g.D.Disk.view c.args.disk.now in
-    let d1 = g.D.Disk.view c.add_line.new.disk in
-    let line = line_quiet NoLog v v1 d0 d1 c.add_line.ensures.same (c.add_line.ensures.syncs told) in
-    followed NoLog v v1 (view_of c.leave-in-Ends.new.self) d0 d1 (g.D.Disk.view c.leave-in-Ends.new.disk) line (c.leave-in-Ends.ensures.syncs told (adds_line c.args.conn (line_of v.kind c.args.event.now) m) (c.in_default.ensures.added told m at).1)
-
--- ---- Over every disk
-
-abbrev err : {T : Type 0} → Refusal → Result T Refusal
-err why = Err why
-
-pub returns-in-Err-clause-does : goal.returns-in-Err-clause-does
-returns-in-Err-clause-does g c = then_quiet (λ e. ap (λ (w : Refusal). err w) (refused_is c.in-Err.why e)) c.in-Err.ensures.does c.leave.ensures.does
-
-pub returns-in-Stays-clause-does : goal.returns-in-Stays-clause-does
-returns-in-Stays-clause-does g c = does_as (λ e. absurd (cc)) c.in_default.ensures.does
-
-pub returns-in-Enters-clause-does : goal.returns-in-Enters-clause-does
-returns-in-Enters-clause-does g c = then_quiet (λ e. absurd (cc)) c.in_default.ensures.does c.leave-in-Enters.ensures.does
-
-pub returns-in-Ends-clause-does : goal.returns-in-Ends-clause-does
-returns-in-Ends-clause-does g c = then_quiet (λ e. absurd (cc)) c.in_default.ensures.does c.leave-in-Ends.ensures.does

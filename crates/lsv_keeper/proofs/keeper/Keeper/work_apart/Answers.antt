@@ -1,10 +1,12 @@
-use Rattle.std.proofs.Common.{Ok, ap, subst, ◌∙◌, ◌≡◌}
+use Rattle.std.proofs.Common.{Ok, ap, subst, sym, ◌≡◌}
 use Rattle.lsv_request.specs.declared.request.Request.{Request}
+use Rattle.lsv_machine.specs.Failures.{AsksFor}
 use Rattle.lsv_machine.specs.Judgement.{judged}
+use Rattle.lsv_keeper.specs.Jobs.{DoesRequest}
 use Rattle.lsv_keeper.specs.Syncing.{GoesOnWith}
 use Rattle.lsv_keeper.specs.Views.{view_of}
 use Rattle.lsv_keeper.proofs.Requests.{valid_record}
-use Rattle.lsv_keeper.proofs.Syncing.{of_none, wider}
+use Rattle.lsv_keeper.proofs.Syncing.{of_none}
 use Rattle.lsv_keeper.proofs.SparingLemmas.{spares_none}
 use Rattle.lsv_keeper.proofs.Causes.{does_free, does_needs}
 use Rattle.lsv_machine.specs.Work.{has_line}
@@ -16,68 +18,61 @@ record-requires-clause-valid g c =
     let (message, fits, asked) = c.requires.asked in
     valid_record c.args.state message c.in-Record.r fits (subst (λ (x : Request). judged c.args.state message ≡ Ok x) c.in-Record.is asked)
 
-pub returns-in-Hello-clause-syncs : goal.returns-in-Hello-clause-syncs
-returns-in-Hello-clause-syncs g c told m at = of_none (GoesOnWith c.args.request) (view_of c.args.self.now) (view_of c.greet.new.self) (g.D.Disk.view c.args.disk.now) (g.D.Disk.view c.greet.new.disk) (c.greet.ensures.syncs told m at)
+pub returns-in-Hello : goal.returns-in-Hello
+returns-in-Hello g c = record {
+  done =
+      subst (λ (x : Request). DoesRequest g.D.Disk.tells c.args.now c.args.conn x c.greet.result (view_of c.args.self.now) (view_of c.greet.new.self) (g.D.Disk.view c.args.disk.now) (g.D.Disk.view c.greet.new.disk)) (sym c.in-Hello.is)
+      (c.greet.ensures.done c.args.now);
+}
 
-pub returns-in-Accept-clause-syncs : goal.returns-in-Accept-clause-syncs
-returns-in-Accept-clause-syncs g c told m at = of_none (GoesOnWith c.args.request) (view_of c.args.self.now) (view_of c.accept.new.self) (g.D.Disk.view c.args.disk.now) (g.D.Disk.view c.accept.new.disk) (c.accept.ensures.syncs told m at)
+pub returns-in-Accept : goal.returns-in-Accept
+returns-in-Accept g c = record {
+  done =
+      let v = view_of c.args.self.now in
+      let v' = view_of c.accept.new.self in
+      let old = g.D.Disk.view c.args.disk.now in
+      let new = g.D.Disk.view c.accept.new.disk in
+      record {
+        keeps = c.accept.ensures.frame.keeps;
+        told = c.accept.ensures.told;
+        row = λ told m job at conn asks. c.accept.ensures.row told m job at conn (subst (λ (x : Request). AsksFor (m.states c.args.conn) job.body x) c.in-Accept.is asks);
+        syncs = λ told m at. of_none (GoesOnWith c.args.request) v v' old new (c.accept.ensures.frame.syncs told m at);
+        spared = λ told m at. spares_none v v' old new m at (c.accept.ensures.frame.syncs told m at);
+        does = does_needs (λ u. ap (has_line (settings_of v)) c.in-Accept.is) c.accept.ensures.frame.does;
+      };
+}
 
-pub returns-in-Reject-clause-syncs : goal.returns-in-Reject-clause-syncs
-returns-in-Reject-clause-syncs g c told m at = of_none (GoesOnWith c.args.request) (view_of c.args.self.now) (view_of c.reject.new.self) (g.D.Disk.view c.args.disk.now) (g.D.Disk.view c.reject.new.disk) (c.reject.ensures.syncs told m at)
+pub returns-in-Reject : goal.returns-in-Reject
+returns-in-Reject g c = record {
+  done =
+      subst (λ (x : Request). DoesRequest g.D.Disk.tells c.args.now c.args.conn x c.reject.result (view_of c.args.self.now) (view_of c.reject.new.self) (g.D.Disk.view c.args.disk.now) (g.D.Disk.view c.reject.new.disk)) (sym c.in-Reject.is)
+      c.reject.ensures.done;
+}
 
-pub returns-in-Alert-clause-syncs : goal.returns-in-Alert-clause-syncs
-returns-in-Alert-clause-syncs g c told m at = of_none (GoesOnWith c.args.request) (view_of c.args.self.now) (view_of c.alert.new.self) (g.D.Disk.view c.args.disk.now) (g.D.Disk.view c.alert.new.disk) (c.alert.ensures.syncs told m at)
+pub returns-in-Alert : goal.returns-in-Alert
+returns-in-Alert g c = record {
+  done =
+      subst (λ (x : Request). DoesRequest g.D.Disk.tells c.args.now c.args.conn x c.alert.result (view_of c.args.self.now) (view_of c.alert.new.self) (g.D.Disk.view c.args.disk.now) (g.D.Disk.view c.alert.new.disk)) (sym c.in-Alert.is)
+      c.alert.ensures.done;
+}
 
-pub returns-in-Record-clause-syncs : goal.returns-in-Record-clause-syncs
-returns-in-Record-clause-syncs g c told m at = of_none (GoesOnWith c.args.request) (view_of c.args.self.now) (view_of c.record.new.self) (g.D.Disk.view c.args.disk.now) (g.D.Disk.view c.record.new.disk) (c.record.ensures.syncs told m at)
+pub returns-in-Restart : goal.returns-in-Restart
+returns-in-Restart g c = record {
+  done =
+      subst (λ (x : Request). DoesRequest g.D.Disk.tells c.args.now c.args.conn x c.restart.result (view_of c.args.self.now) (view_of c.restart.new.self) (g.D.Disk.view c.args.disk.now) (g.D.Disk.view c.restart.new.disk)) (sym c.in-Restart.is)
+      (c.restart.ensures.done c.args.now);
+}
 
-pub returns-in-Exit-clause-syncs : goal.returns-in-Exit-clause-syncs
-returns-in-Exit-clause-syncs g c told m at = of_none (GoesOnWith c.args.request) (view_of c.args.self.now) (view_of c.exit.new.self) (g.D.Disk.view c.args.disk.now) (g.D.Disk.view c.exit.new.disk) (c.exit.ensures.syncs told m at)
+pub returns-in-Record : goal.returns-in-Record
+returns-in-Record g c = record {
+  done =
+      subst (λ (x : Request). DoesRequest g.D.Disk.tells c.args.now c.args.conn x c.record.result (view_of c.args.self.now) (view_of c.record.new.self) (g.D.Disk.view c.args.disk.now) (g.D.Disk.view c.record.new.disk)) (sym c.in-Record.is)
+      (c.record.ensures.done c.args.now);
+}
 
-pub returns-in-Restart-clause-syncs : goal.returns-in-Restart-clause-syncs
-returns-in-Restart-clause-syncs g c told m at =
-    wider (λ n. n ≡ c.in-Restart.restart.log) (GoesOnWith c.args.request) (view_of c.args.self.now) (view_of c.restart.new.self) (g.D.Disk.view c.args.disk.now) (g.D.Disk.view c.restart.new.disk)
-    (λ n e. (c.in-Restart.restart, c.in-Restart.is, e)) (c.restart.ensures.syncs told m at)
-
--- ---- Damaged logs
-
-pub returns-in-Hello-clause-spared : goal.returns-in-Hello-clause-spared
-returns-in-Hello-clause-spared g c told m at = spares_none (view_of c.args.self.now) (view_of c.greet.new.self) (g.D.Disk.view c.args.disk.now) (g.D.Disk.view c.greet.new.disk) m at (c.greet.ensures.syncs told m at)
-
-pub returns-in-Accept-clause-spared : goal.returns-in-Accept-clause-spared
-returns-in-Accept-clause-spared g c told m at = spares_none (view_of c.args.self.now) (view_of c.accept.new.self) (g.D.Disk.view c.args.disk.now) (g.D.Disk.view c.accept.new.disk) m at (c.accept.ensures.syncs told m at)
-
-pub returns-in-Reject-clause-spared : goal.returns-in-Reject-clause-spared
-returns-in-Reject-clause-spared g c told m at = spares_none (view_of c.args.self.now) (view_of c.reject.new.self) (g.D.Disk.view c.args.disk.now) (g.D.Disk.view c.reject.new.disk) m at (c.reject.ensures.syncs told m at)
-
-pub returns-in-Alert-clause-spared : goal.returns-in-Alert-clause-spared
-returns-in-Alert-clause-spared g c told m at = spares_none (view_of c.args.self.now) (view_of c.alert.new.self) (g.D.Disk.view c.args.disk.now) (g.D.Disk.view c.alert.new.disk) m at (c.alert.ensures.syncs told m at)
-
-pub returns-in-Record-clause-spared : goal.returns-in-Record-clause-spared
-returns-in-Record-clause-spared g c told m at = spares_none (view_of c.args.self.now) (view_of c.record.new.self) (g.D.Disk.view c.args.disk.now) (g.D.Disk.view c.record.new.disk) m at (c.record.ensures.syncs told m at)
-
-pub returns-in-Exit-clause-spared : goal.returns-in-Exit-clause-spared
-returns-in-Exit-clause-spared g c told m at = spares_none (view_of c.args.self.now) (view_of c.exit.new.self) (g.D.Disk.view c.args.disk.now) (g.D.Disk.view c.exit.new.disk) m at (c.exit.ensures.syncs told m at)
-
--- ---- Over every disk
-
-pub returns-in-Hello-clause-does : goal.returns-in-Hello-clause-does
-returns-in-Hello-clause-does g c = does_free c.greet.ensures.does
-
-pub returns-in-Accept-clause-does : goal.returns-in-Accept-clause-does
-returns-in-Accept-clause-does g c = does_needs (λ u. ap (has_line (settings_of (view_of c.args.self.now))) c.in-Accept.is) c.accept.ensures.does
-
-pub returns-in-Reject-clause-does : goal.returns-in-Reject-clause-does
-returns-in-Reject-clause-does g c = does_needs (λ u. ap (has_line (settings_of (view_of c.args.self.now))) c.in-Reject.is) c.reject.ensures.does
-
-pub returns-in-Alert-clause-does : goal.returns-in-Alert-clause-does
-returns-in-Alert-clause-does g c = does_needs (λ u. ap (has_line (settings_of (view_of c.args.self.now))) c.in-Alert.is) c.alert.ensures.does
-
-pub returns-in-Restart-clause-does : goal.returns-in-Restart-clause-does
-returns-in-Restart-clause-does g c = does_free c.restart.ensures.does
-
-pub returns-in-Record-clause-does : goal.returns-in-Record-clause-does
-returns-in-Record-clause-does g c = does_free c.record.ensures.does
-
-pub returns-in-Exit-clause-does : goal.returns-in-Exit-clause-does
-returns-in-Exit-clause-does g c = does_needs (λ e. ap (has_line (settings_of (view_of c.args.self.now))) c.in-Exit.is ∙ e) c.exit.ensures.does
+pub returns-in-Exit : goal.returns-in-Exit
+returns-in-Exit g c = record {
+  done =
+      subst (λ (x : Request). DoesRequest g.D.Disk.tells c.args.now c.args.conn x c.exit.result (view_of c.args.self.now) (view_of c.exit.new.self) (g.D.Disk.view c.args.disk.now) (g.D.Disk.view c.exit.new.disk)) (sym c.in-Exit.is)
+      c.exit.ensures.done;
+}

@@ -8,7 +8,7 @@ use Rattle.lsv_lane.proofs.lane.StoreLane.open.Goals as goal
 
 pub returns-in-Ok-clause-made : goal.returns-in-Ok-clause-made
 returns-in-Ok-clause-made g c =
-    made_open g.D.Disk.tells g.G.Tape.tells c.args.lane c.args.lanes c.args.formatter.kind c.args.log_exit c.args.texts (g.D.Disk.view c.args.bay.disk) (g.D.Disk.view c.open.new.disk) (view_of c.in-Ok.keeper)
+    made_open g.D.Disk.tells g.G.Tape.tells c.args.lane.number c.args.lane.of c.args.policy.formatter.kind c.args.policy.log_exit c.args.policy.texts (g.D.Disk.view c.args.bay.disk) (g.D.Disk.view c.open.new.disk) (view_of c.in-Ok.keeper)
     (g.G.Tape.turns c.args.bay.tape) c.in-Ok.ensures.set c.in-Ok.ensures.rests (λ told. c.requires.fresh told _ (c.in-Ok.ensures.read told)) c.in-Ok.ensures.opened c.in-Ok.ensures.sound (c.in-Ok.ensures.cause (Events 0)).monotone c.open.ensures.unused
 
 pub returns-in-Err-clause-cause : goal.returns-in-Err-clause-cause
@@ -16,9 +16,9 @@ returns-in-Err-clause-cause g c = λ o e. (c.in-Err.ensures.cause o).risen (ap E
 
 pub returns-in-Err-clause-store : goal.returns-in-Err-clause-store
 returns-in-Err-clause-store g c = λ told.
-    keeps_none (lane_settings c.args.lane c.args.lanes c.args.formatter.kind c.args.log_exit) c.args.texts (g.D.Disk.view c.args.bay.disk) (g.D.Disk.view c.open.new.disk) (c.in-Err.ensures.store told) (c.open.ensures.unused told)
+    keeps_none (lane_settings c.args.lane.number c.args.lane.of c.args.policy.formatter.kind c.args.policy.log_exit) c.args.policy.texts (g.D.Disk.view c.args.bay.disk) (g.D.Disk.view c.open.new.disk) (c.in-Err.ensures.store told) (c.open.ensures.unused told)
 
 pub returns-in-Err-clause-fresh : goal.returns-in-Err-clause-fresh
 returns-in-Err-clause-fresh g c = λ told.
-    fresh_still c.args.lane c.args.lanes (g.D.Disk.view c.args.bay.disk) (g.D.Disk.view c.open.new.disk) (c.requires.fresh told)
+    fresh_still c.args.lane.number c.args.lane.of (g.D.Disk.view c.args.bay.disk) (g.D.Disk.view c.open.new.disk) (c.requires.fresh told)
     (λ some. (c.open.ensures.kept told some).reads) (λ fit. ((c.in-Err.ensures.store told).numbers fit).now)

@@ -1,10 +1,11 @@
-use Rattle.std.proofs.Common.{List, ◌∙◌, subst}
+use Rattle.std.proofs.Common.{◌++◌, List, ap, sym, ◌∙◌, subst}
+use Rattle.std.specs.List.{AllByRecursion}
 use Rattle.lsv_session.specs.declared.reply.Reply.{Reply}
 use Rattle.lsv_keeper.specs.Causes.{AnyIsOf, MayAnswerTo, Says}
 use Rattle.lsv_keeper.specs.Views.{view_of}
 use Rattle.lsv_turn.specs.Turns.{LaneTurn}
 use Rattle.lsv_lane.specs.InnerLane.{IsMade}
-use Rattle.lsv_lane.proofs.Laws.{are_asked}
+use Rattle.lsv_lane.proofs.Laws.{are_asked, to_these}
 use Rattle.lsv_lane.proofs.Standing.{gives_first, made_roomier, made_taped, made_turn, roomier_rests, roomier_stands}
 use Rattle.lsv_lane.proofs.lane.StoreLaneLane.turn.Goals as goal
 
@@ -44,3 +45,7 @@ returns-clause-asked g c = λ told start turns made.
     (λ told m is. gives_first _ _ _ m _ _ _ _ _ (c.ready.ensures.replies ∙ c.clear.ensures.items) (c.turn.ensures.turned told m is)) c.turn.ensures.spared
     (subst (λ (s : List Reply). Says (AnyIsOf c.args.jobs.items) (MayAnswerTo (view_of c.ready.new.self) c.args.jobs.items (g.D.Disk.view c.args.self.now.bay.disk) (g.D.Disk.view c.turn.new.disk)) s c.turn.new.out.items) (c.ready.ensures.replies ∙ c.clear.ensures.items) c.turn.ensures.says) c.turn.ensures.failed c.turn.ensures.monotone base in
     are_asked start.set start.texts (g.D.Disk.view start.disk) (g.D.Disk.view c.turn.new.disk) (view_of c.turn.new.self) _ (new.standing told)
+
+pub returns-clause-to_these : goal.returns-clause-to_these
+returns-clause-to_these g c = to_these c.args.jobs.items c.turn.new.out.items
+    (subst (AllByRecursion (λ r. AnyIsOf c.args.jobs.items r.conn)) (sym (c.turn.ensures.says.behind ∙ ap (λ (l : List Reply). l ++ c.turn.ensures.says.replies) (c.ready.ensures.replies ∙ c.clear.ensures.items))) c.turn.ensures.says.asked)

@@ -8,7 +8,7 @@ use Rattle.lsv_keeper.proofs.ExitEnds.{keeps_from}
 use Rattle.lsv_keeper.proofs.Refusing.{keeps_same, moved_out, moved_there}
 use Rattle.lsv_keeper.proofs.Causes.{at_each, does_none, none_of, none_taken, taken_then}
 use Rattle.lsv_keeper.specs.Logs.{open_logs, with_open}
-use Rattle.lsv_keeper.proofs.keeper.Keeper.let_refused.Goals as goal
+use Rattle.lsv_keeper.proofs.keeper.Keeper.release_refused.Goals as goal
 
 pub let_go-requires : goal.let_go-requires
 let_go-requires g c = record {
