@@ -205,7 +205,7 @@ def shown_settings(text: bytes) -> str:
 
 # ---- the command words
 
-RANGES = {"--lanes": (1, 1), "--stop-after": (1, 2**32 - 1), "count": (1, 10_000)}
+RANGES = {"--lanes": (1, 4), "--stop-after": (1, 2**32 - 1), "count": (1, 10_000)}
 OPTIONS = {"once": {"-f"}, "serve": {"-f", "--lanes", "--stop-after"}, "load": {"-f"}, "relay": {"-f"}}
 DEFAULT_CONF = "/etc/sudo_logsrvd.conf"
 
@@ -538,14 +538,14 @@ def words_rows() -> None:
     for options in [[], ["-f c"]]:
         words(" ".join(["once"] + options))
         words(" ".join(["relay"] + options))
-    choices = ["-f /etc/c", "--lanes 1", "--stop-after 7"]
+    choices = ["-f /etc/c", "--lanes 4", "--stop-after 7"]
     for count in range(4):
         for order in itertools.permutations(choices, count):
             words(" ".join(("serve",) + order))
     for order in [["300"], ["-f c", "300"], ["300", "-f c"]]:
         words(" ".join(["load"] + order))
     words("once", 'once "/etc/sudo_logsrvd.conf" lanes 1')
-    words("serve --stop-after 7 -f c --lanes 1", 'serve "c" lanes 1 stop after 7')
+    words("serve --stop-after 7 -f c --lanes 3", 'serve "c" lanes 3 stop after 7')
     words("load 3 -f c", '3 load "c" lanes 1')
     words("relay", 'relay "/etc/sudo_logsrvd.conf" lanes 1')
     words("relay -f c", 'relay "c" lanes 1')
@@ -558,7 +558,7 @@ def number_rows() -> None:
     for text in ["1", "10000", "0", "10001", "x", "1x", "", "1.0", "1,0", "01", "+3", "0010000", "00", "+0", "+", "++1",
         "4294967297", "18446744073709551617", "9" * 40, "३", "0x1", "1e3"]:
         words(f"load {text}")
-    for text in ["1", "0", "2", "01", "+1", "x", "", "4294967297"]:
+    for text in ["1", "0", "4", "5", "-4", "01", "04", "+1", "+4", "+5", "x", "", "4294967298"]:
         words(f"serve --lanes {text}")
     for text in ["1", "0", "4294967295", "4294967296", "04294967295", "+7", "x", "", "9223372036854775808"]:
         words(f"serve --stop-after {text}")

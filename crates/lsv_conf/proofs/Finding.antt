@@ -1,10 +1,10 @@
 -- A text whose refused lines are found as far as some line.
-use Rattle.std.proofs.Common.{◌≡◌, ◌∙◌, ℕ, ◌+◌, ◌-◌, ◌^◌, Bool, true, false, List, [], ◌∷◌, ◌++◌, Option, Some, None, Bor, cond, find, min, ap, refl, sym, option_map, append_assoc, arith}
+use Rattle.std.proofs.Common.{◌≡◌, ◌∙◌, ℕ, ◌+◌, ◌-◌, ◌^◌, ◌≤◌, Bool, true, false, List, [], ◌∷◌, ◌++◌, Option, Some, None, Bor, cond, find, min, ap, refl, sym, option_map, append_assoc, arith}
 use Rattle.std.specs.Prelude.{not}
 use Rattle.std.specs.Str.{IsUtf8, is_utf8}
 use Rattle.std.proofs.lemmas.Str.{IsUtf8-from_is_utf8, is_utf8-from_IsUtf8}
 use Rattle.lsv_conf.specs.Lines.{Line, Empty, Section, Setting, Bad, Placed, first_refused, is_refused, line_of, lines_of, placed, refuses, section_behind}
-use Rattle.lsv_conf.specs.Refusals.{first_number, onto, refusal, refusal_of, refused_from, refused_lines, wrong_value}
+use Rattle.lsv_conf.specs.Refusals.{onto, refusal, refusal_of, refused_from, refused_lines, wrong_value}
 use Rattle.lsv_conf.specs.Settings.{told}
 use Rattle.lsv_conf.specs.Table.{Row, row_of}
 use Rattle.lsv_conf.specs.Texts.{before, behind, pieces}
@@ -77,12 +77,17 @@ text_refusal section bytes good = rw (is_utf8-from_IsUtf8 bytes good) refl
 
 -- ---- The first refused line
 
+-- the number of the first of these lines
+abbrev pub first_number : List RefusedLine → Option ℕ
+first_number [] = None
+first_number (r ∷ more) = Some r.line
+
 -- the number of the first of some lines that is refused
 abbrev first_of : ℕ → Option (List ℕ) → List (List ℕ) → Option ℕ
 first_of number section ps = option_map told (option_map (λ (p : Placed). p.number) (find is_refused (placed number section ps)))
 
 -- whether a line is refused, and why
-abbrev is_why : Option Refused → Bool
+abbrev pub is_why : Option Refused → Bool
 is_why None = false
 is_why (Some why) = true
 
@@ -101,7 +106,7 @@ why_refuses section Bad = refl
 why_refuses None (Setting key value) = refl
 why_refuses (Some name) (Setting key value) = setting_refuses name key value (row_of name key) refl
 
-bytes_refuse : (section : Option (List ℕ)) (bytes : List ℕ) (t : Bool) → is_utf8 bytes ≡ t → is_why (refusal section bytes) ≡ refuses section (line_of bytes)
+pub bytes_refuse : (section : Option (List ℕ)) (bytes : List ℕ) (t : Bool) → is_utf8 bytes ≡ t → is_why (refusal section bytes) ≡ refuses section (line_of bytes)
 bytes_refuse section bytes true e = rw e (why_refuses section _)
 bytes_refuse section bytes false e = rw e refl
 
@@ -129,3 +134,21 @@ first_from number section (bytes ∷ more) =
 -- the first refused line is the first that is refused
 pub first_is : (text : List ℕ) → first_number (refused_lines text) ≡ option_map told (first_refused (lines_of text))
 first_is text = first_from 1 None (pieces 10 text)
+
+-- the number of the first of these lines, or 1
+abbrev pub first_line : List RefusedLine → ℕ
+first_line [] = 1
+first_line (r ∷ more) = r.line
+
+counted_onto : (number : ℕ) (o : Option Refused) (more : List RefusedLine) → 1 ≤ number → 1 ≤ first_line more → 1 ≤ first_line (onto (told number) o more)
+counted_onto number None more counted rest = rest
+counted_onto number (Some why) more counted rest = omega (arith, counted)
+
+counted_from : (number : ℕ) (section : Option (List ℕ)) (ps : List (List ℕ)) → 1 ≤ number → 1 ≤ first_line (refused_from number section ps)
+counted_from number section [] counted = omega arith
+counted_from number section (bytes ∷ more) counted =
+    counted_onto number (refusal section bytes) (refused_from (number + 1) (section_behind section (line_of bytes)) more) counted (counted_from (number + 1) (section_behind section (line_of bytes)) more (omega (arith, counted)))
+
+-- its number is counted from 1
+pub first_counted : (text : List ℕ) → 1 ≤ first_line (refused_lines text)
+first_counted text = counted_from 1 None (pieces 10 text) (omega arith)

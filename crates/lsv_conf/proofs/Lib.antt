@@ -6,4 +6,5 @@ mod Hosts
 mod Ports
 mod Pushes
 mod Reading
+mod Taking
 mod Utf8

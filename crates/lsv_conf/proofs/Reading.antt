@@ -76,20 +76,3 @@ pub reading_end : (text : List ℕ) (shown : Settings) (number : ℕ) (section r
 reading_end text shown number section rest is r =
     let all : lines_of text ≡ r.done = r.whole ∙ ap (λ left. r.done ++ lines_left r.n section left) is ∙ no_more r.done in
     (r.settings ∙ ap settings_of (sym all), ap first_refused all ∙ ap (option_map (λ (p : Placed). p.number)) r.none)
-
--- the next line has a number from 1 on
-pub reading_counted : (text : List ℕ) (shown : Settings) (number : ℕ) (section rest : Option (Bor (List ℕ))) → IsReading text shown number section rest → 1 ≤ number
-reading_counted text shown number section rest r = let told_is : min r.n (2 ^ 32 - 1) ≡ number = r.told in let counted = r.counted in omega arith
-
--- the next line is refused
-pub reading_refused : (text : List ℕ) (shown : Settings) (number : ℕ) (section rest more : Option (Bor (List ℕ))) (bytes : Bor (List ℕ)) (line : List ℕ)
-    → rest ≡ Some bytes → line ≡ before 10 bytes.now → now_of more ≡ behind 10 bytes.now → refuses (now_of section) (line_of line) ≡ true
-    → IsReading text shown number section rest → option_map told (first_refused (lines_of text)) ≡ Some number
-reading_refused text shown number section rest more bytes line is first cut bad r =
-    let front : lines_left r.n section rest ≡ at r.n (now_of section) line ∷ placed (r.n + 1) (section_behind (now_of section) (line_of line)) (pieces_left 10 more) =
-    ap (lines_left r.n section) is ∙ ap (placed r.n (now_of section)) (left_cut 10 bytes.now more cut)
-    ∙ ap (λ b. at r.n (now_of section) b ∷ placed (r.n + 1) (section_behind (now_of section) (line_of b)) (pieces_left 10 more)) (sym first) in
-    ap (λ ls. option_map told (first_refused ls)) (r.whole ∙ ap (λ ls. r.done ++ ls) front)
-    ∙ ap (λ o. option_map told (option_map (λ (p : Placed). p.number) o)) (find_on is_refused r.done _ r.none)
-    ∙ ap (λ t. option_map told (option_map (λ (p : Placed). p.number) (cond t (Some (at r.n (now_of section) line)) (find is_refused (placed (r.n + 1) (section_behind (now_of section) (line_of line)) (pieces_left 10 more)))))) bad
-    ∙ ap (λ n. Some n) r.told

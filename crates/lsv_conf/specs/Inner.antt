@@ -96,6 +96,10 @@ nothing_given section key = None
 abbrev pub at : ℕ → Option (List ℕ) → List ℕ → Placed
 at number section bytes = record { number = number; section = section; line = spec.line_of bytes }
 
+-- the same of what it is
+abbrev pub placed_line : ℕ → Option (List ℕ) → spec.Line → Placed
+placed_line number section line = record { number = number; section = section; line = line }
+
 -- a setting in a text
 abbrev pub placed_setting : ℕ → List ℕ → List ℕ → List ℕ → Placed
 placed_setting number section key value = record { number = number; section = Some section; line = spec.Setting key value }

@@ -9,6 +9,7 @@ use Rattle.lsv_conf.specs.Texts.{pieces}
 use Rattle.lsv_conf.specs.Values.{takes}
 use Rattle.lsv_conf.specs.declared.refused.Refused.{Refused}
 use Rattle.lsv_conf.specs.declared.refused.Refused.TheVariants.{NotUtf8, NoForm, NoSection, Value}
+use Rattle.lsv_conf.specs.declared.refused.Refusals.{Refusals}
 use Rattle.lsv_conf.specs.declared.refused.RefusedLine.{RefusedLine}
 
 -- a known key doesn't take this value
@@ -42,7 +43,11 @@ refused_from number section (bytes ∷ more) =
 abbrev pub refused_lines : List ℕ → List RefusedLine
 refused_lines text = refused_from 1 None (pieces 10 text)
 
--- the number of the first of them
-abbrev pub first_number : List RefusedLine → Option ℕ
-first_number [] = None
-first_number (r ∷ more) = Some r.line
+-- the refused lines that are answered
+abbrev pub lines_in : Refusals → List RefusedLine
+lines_in refused = refused.first ∷ refused.more
+
+-- the refused lines so far
+abbrev pub found_in : Option Refusals → List RefusedLine
+found_in None = []
+found_in (Some refused) = lines_in refused

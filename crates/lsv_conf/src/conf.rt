@@ -3,6 +3,7 @@ ghost use Rattle.std.specs.List.{list_all};
 ghost use Rattle.std.specs.Option.{option_map_or};
 ghost use Rattle.std.specs.Str.{is_utf8};
 
+use crate::refused::Refusals;
 use lsv_base::{Bytes, List};
 use lsv_event::Kind;
 use thiserror::Error;
@@ -17,11 +18,11 @@ pub struct Note {
 }
 
 /// Why a settings file was not read.
-#[derive(Clone, Copy, Debug, Error, PartialEq, Eq)]
+#[derive(Debug, Drop, Error)]
 pub enum ConfFault {
-    /// The number of the first line that is refused, counted from 1; 2^32 - 1 where it is greater.
-    #[error("settings line {0}")]
-    Line(u32),
+    /// Lines are refused.
+    #[error("settings lines are refused")]
+    Refused(Refusals),
     #[error("out of memory")]
     NoMem,
 }

@@ -14,7 +14,5 @@ mod value;
 pub use conf::{Conf, ConfFault, Note};
 pub use lsv_event::Kind;
 pub use read::read_conf;
-pub use refused::{
-    Refused, RefusedLine, WrongValue, refused_lines, the_first_is_the_line_of_read_conf,
-};
+pub use refused::{Refusals, Refused, RefusedLine, WrongValue};
 pub use row::Values;

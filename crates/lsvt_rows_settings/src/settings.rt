@@ -2,7 +2,7 @@
 
 use anyhow::{Result, anyhow};
 use lsv_base::{Bytes, List};
-use lsv_conf::{Conf, Note, Refused, RefusedLine, read_conf, refused_lines};
+use lsv_conf::{Conf, ConfFault, Note, Refused, RefusedLine, read_conf};
 use percent_encoding::percent_decode;
 use std::alloc::Global;
 use std::str;
@@ -53,7 +53,10 @@ pub fn read(rt: &HostRuntime, escaped: &str) -> Result<()> {
     let bytes = unescaped(alloc, escaped)?;
     match read_conf(alloc, bytes.as_slice()) {
         Ok(conf) => show(rt, &conf),
-        Err(fault) => Ok(println!(rt; "{fault}")?),
+        Err(ConfFault::Refused(refused)) => {
+            Ok(println!(rt; "settings line {}", refused.first.line)?)
+        }
+        Err(fault) => Err(fault.into()),
     }
 }
 
@@ -76,12 +79,13 @@ fn show_refused(rt: &HostRuntime, refused: &RefusedLine) -> Result<()> {
 pub fn read_refused(rt: &HostRuntime, escaped: &str) -> Result<()> {
     let alloc = rt.alloc();
     let bytes = unescaped(alloc, escaped)?;
-    let lines = refused_lines(alloc, bytes.as_slice())?;
-    let Some((first, more)) = lines.as_slice().split_first() else {
-        return Ok(println!(rt; "none")?);
+    let refused = match read_conf(alloc, bytes.as_slice()) {
+        Ok(_) => return Ok(println!(rt; "none")?),
+        Err(ConfFault::Refused(refused)) => refused,
+        Err(fault) => return Err(fault.into()),
     };
-    show_refused(rt, first)?;
-    for refused in more {
+    show_refused(rt, &refused.first)?;
+    for refused in refused.more.as_slice() {
         print!(rt; "; ")?;
         show_refused(rt, refused)?;
     }

@@ -1,9 +1,8 @@
-use Rattle.std.proofs.Common.{◌≡◌, ◌∙◌, ◌&&◌, not, rules, tests}
+use Rattle.std.proofs.Common.{◌≡◌, not, rules, tests}
 use Rattle.std.specs.List.{list_all}
 use Rattle.std.proofs.lemmas.Iterator.{YieldsList-from_slice}
 use Rattle.std.proofs.lemmas.Iterator.Search.{all_from_yields_List}
 use Rattle.lsv_conf.specs.Values.{is_mark}
-use Rattle.lsv_conf.specs.Texts.{is_empty}
 use Rattle.lsv_conf.proofs.Hosts.{host_by}
 use Rattle.lsv_conf.proofs.address.is_host.Goals as goal
 

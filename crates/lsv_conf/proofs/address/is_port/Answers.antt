@@ -1,4 +1,4 @@
-use Rattle.std.proofs.Common.{◌≡◌, ◌∙◌, ◌≤◌, sym, arith}
+use Rattle.std.proofs.Common.{◌∙◌, sym, arith}
 use Rattle.lsv_conf.proofs.Ports.{port_not_text, port_parsed}
 use Rattle.lsv_conf.proofs.address.is_port.Goals as goal
 

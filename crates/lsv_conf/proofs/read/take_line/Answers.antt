@@ -1,15 +1,13 @@
-use Rattle.std.proofs.Common.{◌≡◌, ◌∙◌, ◌++◌, ◌∷◌, [], ap, option_map}
-use Rattle.lsv_conf.specs.Lines.{Line}
-use Rattle.lsv_conf.specs.Settings.{settings_of}
-use Rattle.lsv_conf.proofs.Pushes.{pushed_empty, pushed_section}
+use Rattle.std.proofs.Common.{◌≡◌, ◌∙◌, Option, IfOk, ap, sym, subst, option_map}
+use Rattle.lsv_conf.specs.Refusals.{refusal_of}
+use Rattle.lsv_conf.specs.declared.refused.Refused.{Refused}
+use Rattle.lsv_conf.proofs.Finding.{bytes_refusal, text_refusal}
 use Rattle.lsv_conf.proofs.read.take_line.Goals as goal
 
-pub returns-in-Empty-clause-settings : goal.returns-in-Empty-clause-settings
-returns-in-Empty-clause-settings c = λ before n t same.
-    same ∙ pushed_empty before n (option_map (λ name. name.now) c.args.section)
-    ∙ ap (λ (line : Line). settings_of (before ++ (record { number = n; section = option_map (λ name. name.now) c.args.section; line = line }) ∷ [])) c.in-Empty.ensures
+pub returns-in_default-clause-refused : goal.returns-in_default-clause-refused
+returns-in_default-clause-refused c = bytes_refusal (option_map (λ name. name.now) c.args.section) c.args.bytes.now c.in_default.ensures.cases.0
 
-pub returns-in-Section-clause-settings : goal.returns-in-Section-clause-settings
-returns-in-Section-clause-settings c = λ before n t same.
-    same ∙ pushed_section before n (option_map (λ name. name.now) c.args.section) c.in-Section.name.now
-    ∙ ap (λ (line : Line). settings_of (before ++ (record { number = n; section = option_map (λ name. name.now) c.args.section; line = line }) ∷ [])) c.in-Section.ensures
+pub returns-clause-refused : goal.returns-clause-refused
+returns-clause-refused c =
+    let section = option_map (λ name. name.now) c.args.section in
+    subst (λ (w : Option Refused). IfOk c.take_text.result (λ r. r ≡ w)) (ap (refusal_of section) c.line_of.ensures ∙ sym (text_refusal section c.args.bytes.now c.in-Ok.ensures.cases.1)) c.take_text.ensures.refused

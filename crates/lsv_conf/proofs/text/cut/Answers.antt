@@ -1,6 +1,5 @@
-use Rattle.std.proofs.Common.{◌≡◌, ◌∙◌, ℕ, ◌==◌, ◌<◌, ◌+◌, ◌-◌, Some, None, List, ap, sym, arith}
+use Rattle.std.proofs.Common.{◌∙◌, ℕ, Some, List, ap, sym, arith}
 use Rattle.lsv_conf.proofs.Cuts.{cut_at, cut_none, not_true, rest_of}
-use Rattle.lsv_conf.specs.Texts.{before, behind}
 use Rattle.lsv_conf.proofs.text.cut.Goals as goal
 
 pub returns-in-Some-clause-before : goal.returns-in-Some-clause-before

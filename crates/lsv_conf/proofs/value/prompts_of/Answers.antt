@@ -1,5 +1,5 @@
-use Rattle.std.proofs.Common.{◌≡◌, ◌∙◌, ◌++◌, ◌∷◌, ℕ, [], ap}
-use Rattle.lsv_conf.specs.Texts.{before, trimmed}
+use Rattle.std.proofs.Common.{◌∙◌, ap}
+use Rattle.lsv_conf.specs.Texts.{trimmed}
 use Rattle.lsv_conf.specs.Values.{prompts_of}
 use Rattle.lsv_conf.proofs.Cuts.{left_cut, left_less, made_more}
 use Rattle.lsv_conf.proofs.value.prompts_of.Goals as goal

@@ -1,4 +1,4 @@
-use Rattle.std.proofs.Common.{◌≡◌, ℕ, ◌+◌, ◌++◌, [], map}
+use Rattle.std.proofs.Common.{◌≡◌, ◌++◌, map}
 use Rattle.lsv_conf.specs.Texts.{trimmed}
 use Rattle.lsv_conf.specs.Values.{prompts_of}
 use Rattle.lsv_conf.proofs.Cuts.{left_of, pieces_left}
