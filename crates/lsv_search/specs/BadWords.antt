@@ -61,7 +61,7 @@ no_argument Runas = NeedsArgument Runas
 no_argument Tty = NeedsArgument Tty
 no_argument User = NeedsArgument User
 
--- why a word isn't taken, or why one is missing, where this is due
+-- why a word isn't taken, or why one is missing, if this is due
 abbrev pub reason : Due → Option (List ℕ) → BadWord
 reason Search None = NeedsSearch
 reason (Argument name) None = NeedsArgument name
@@ -82,7 +82,7 @@ kind_of (places.Factor outer) = Search
 kind_of (places.Argument name outer) = Argument name
 kind_of (places.Operator outer) = Operator
 
--- a word isn't taken, or one is missing, where this is due
+-- a word isn't taken, or one is missing, if this is due
 abbrev pub Fails : places.Due → Option (List ℕ) → Type 0
 Fails due None = IsUnfinished due
 Fails due (Some word) = Refuses due word

@@ -73,7 +73,7 @@ abbrev mutual
   factor_holds (Enclosed e) head = holds e head
   factor_holds (grammar.Test name argument) head = option_map_or (λ test. says test head) (test_in name argument) false
 
--- a log of this head is searched for: each is, where there is no expression
+-- a log of this head is searched for: each is, if there is no expression
 abbrev pub matches : Option Expression → Head → Bool
 matches None head = true
 matches (Some e) head = holds e head

@@ -10,7 +10,7 @@ use Rattle.lsv_search.specs.Dates.{date_in}
 use Rattle.lsv_search.specs.Patterns.{IsRefusedPattern}
 use Rattle.lsv_search.specs.Grammar.{IsArgument, most_depth}
 
--- what a word is, where no argument is due
+-- what a word is, if no argument is due
 abbrev pub token_of : List ℕ → Token
 token_of word =
     if bytes_eq word (codes "!") then Exclamation
@@ -37,7 +37,7 @@ complete [] = Operator []
 complete (Negation ∷ outer) = complete outer
 complete (Parenthesis ∷ outer) = Operator (Parenthesis ∷ outer)
 
--- one more is open, where it may be
+-- one more is open, if it may be
 abbrev pub deeper : Opened → List Opened → Option Due
 deeper opened outer = if nat_lt (length outer) most_depth then Some (Factor (opened ∷ outer)) else None
 
@@ -51,7 +51,7 @@ begin outer Or = None
 begin outer (Word None) = None
 begin outer (Word (Some name)) = Some (Argument name outer)
 
--- what is due after a closing parenthesis, where one is open
+-- what is due after a closing parenthesis, if one is open
 abbrev pub close : List Opened → Option Due
 close [] = None
 close (Negation ∷ outer) = None
@@ -104,10 +104,10 @@ FailsAt due [] (suc at) = ⊥
 FailsAt due (word ∷ words) zero = Refuses due word
 FailsAt due (word ∷ words) (suc at) = (next : Due) × Takes due word next × FailsAt next words at
 
--- a place is told as 2 ^ 32 - 1 where it is greater
+-- a place is given as 2 ^ 32 - 1 if it is greater
 abbrev pub told : ℕ → ℕ
 told place = min place (2 ^ 32 - 1)
 
--- there are words, and this is the place of the first that no expression takes, or the number of words where one is missing
+-- there are words, and this is the place of the first that no expression takes, or the number of words if one is missing
 abbrev pub IsFirstBad : List (List ℕ) → ℕ → Type 0
 IsFirstBad words at = (words ≢ []) × ((place : ℕ) × FailsAt (Factor []) words place × (at ≡ told place))

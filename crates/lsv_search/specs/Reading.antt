@@ -59,7 +59,7 @@ pub record Ends (r : Reader) : Type 0 where
   pub factor : GoesOn (next_token r) → ⊥
   pub conjunction : next_token r ≡ Some tokens.Or → ⊥
 
--- where this is due at the reader's place, the word at this place is the first that isn't taken
+-- if this is due at the reader's place, the word at this place is the first that isn't taken
 abbrev pub FailsFrom : Due → Reader → ℕ → Type 0
 FailsFrom due r at = (n : ℕ) × (at ≡ r.at + n) × FailsAt due (drop r.at r.words.now) n
 

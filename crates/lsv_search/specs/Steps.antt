@@ -28,7 +28,7 @@ abbrev mutual
   factor_steps (Enclosed e) = steps_of e
   factor_steps (grammar.Test name argument) = tested (test_in name argument)
 
--- these are the steps of this expression, whose tests are tests; there are none where there is no expression
+-- these are the steps of this expression, whose tests are tests; there are none if there is no expression
 abbrev pub AreStepsOf : Option Expression → List Step → Type 0
 AreStepsOf None steps = steps ≡ []
 AreStepsOf (Some e) steps = (steps ≡ steps_of e) × AreTests e

@@ -8,7 +8,7 @@ use std::alloc::Global;
 /// The form of a date, with a 0 in the place of each digit.
 const FORM: &[u8] = b"0000-00-00T00:00:00Z";
 
-/// The seconds from the start of 1970 to the moment that a date names. None where the text is no date.
+/// The seconds from the start of 1970 to the moment that a date names. None if the text is no date.
 #[tactic(auto, unfolding(crate::specs::Dates::date_in))]
 pub fn date_in(alloc: Global, text: &[u8]) -> Result<Option<u64>, NoMem>
     ensures { IfOk result (λ o. o ≡ date_in text.now) }
@@ -50,7 +50,7 @@ fn seconds_in(text: &[u8]) -> Option<u64>
     Some(u64::from(days) * 86400 + u64::from(hour * 3600 + minute * 60 + second))
 }
 
-/// The days from the start of 1970 to a day. None where the calendar has no such day from 1970 to 2261.
+/// The days from the start of 1970 to a day. None if the calendar has no such day from 1970 to 2261.
 fn days_in(year: u32, month: u32, day: u32) -> Option<u32>
     ensures { result ≡ (if is_day year month day then Some (days_to year month day) else None) }
 {

@@ -22,8 +22,8 @@ impl Model for Expr {
 /// Why words are no expression.
 #[derive(Clone, Copy, Debug, PartialEq, Eq, Error)]
 pub enum ExprFault {
-    /// The place of the first word that can't be taken, counted from 0, or the number of words where one is missing; told
-    /// as 2^32 - 1 where it is greater.
+    /// The place of the first word that can't be taken, counted from 0, or the number of words if one is missing. It is
+    /// 2^32 - 1 if the place is greater.
     #[error("bad expression at word {0}")]
     BadExpression(u32),
     #[error("out of memory")]

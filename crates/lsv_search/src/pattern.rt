@@ -34,7 +34,7 @@ pub enum PatternFault {
 }
 
 impl Pattern {
-    /// Compiles a text, or fails where regex refuses it.
+    /// Compiles a text, or fails if regex refuses it.
     pub fn new(alloc: Global, text: &str) -> Result<Pattern, PatternFault>
         ensures text { IfOk result (λ p. p ≡ text.now) }
         ensures pattern { IfOk result (λ _. IsPattern text.now) }

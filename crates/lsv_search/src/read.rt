@@ -23,9 +23,9 @@ use std::alloc::Global;
 use std::str;
 
 /// Reads the expression that these words are; no word at all is true of every log. Each word has to be UTF-8.
-/// `BadExpression` exactly where the words are none, with the place of the first word that can't be taken: one that the
+/// `BadExpression` exactly if the words are none, with the place of the first word that can't be taken: one that the
 /// grammar doesn't have there, a parenthesis or `!` nested more than 100 deep, a date that is none, a pattern that regex
-/// refuses for another cause than memory; or the number of words where one is missing.
+/// refuses for another cause than memory; or the number of words if one is missing.
 pub fn read_expr(alloc: Global, words: &List<Bytes>) -> Result<Expr, ExprFault>
     requires { IsTrue (list_all is_utf8 words.now) }
     ensures ok { IfOk result (λ e. (searched : Option Expression) × IsSearch words.now searched × AreStepsOf searched e) }
@@ -46,7 +46,7 @@ pub fn read_expr(alloc: Global, words: &List<Bytes>) -> Result<Expr, ExprFault>
     }
 }
 
-/// A place as it is told.
+/// A place as it is given.
 fn told(at: usize) -> u32
     ensures { result ≡ told at }
 {
@@ -236,7 +236,7 @@ impl Reader<'_> {
     }
 }
 
-/// The test that a name and its argument are. None where the argument is refused.
+/// The test that a name and its argument are. None if the argument is refused.
 fn test_of(alloc: Global, name: Name, word: &Bytes) -> Result<Option<Test>, NoMem>
     requires { IsUtf8 word.now }
     ensures test { IfOk result (λ o. IfSome o (λ test. (test_of name word.now ≡ Some test) × IsArgument name word.now)) }
@@ -256,7 +256,7 @@ fn test_of(alloc: Global, name: Name, word: &Bytes) -> Result<Option<Test>, NoMe
     }))
 }
 
-/// The test of a command by a pattern. None where regex refuses it.
+/// The test of a command by a pattern. None if regex refuses it.
 fn command(alloc: Global, word: &Bytes) -> Result<Option<Test>, NoMem>
     requires { IsUtf8 word.now }
     ensures test { IfOk result (λ o. IfSome o (λ test. (test ≡ Test.Command word.now) × IsPattern word.now)) }

@@ -4,7 +4,7 @@ ghost use Rattle.lsv_search.specs.Reading.{starting};
 
 use crate::name::{Name, name_in};
 
-/// What a word is, where no argument is due.
+/// What a word is, if no argument is due.
 #[derive(Clone, Copy, Debug, PartialEq, Eq)]
 pub enum Token {
     /// `!`
@@ -40,7 +40,7 @@ pub fn token_of(word: &[u8]) -> Token
     }
 }
 
-/// What a word begins where a factor is due.
+/// What a word begins if a factor is due.
 #[derive(Clone, Copy, Debug, PartialEq, Eq)]
 pub enum Start {
     Negation,
@@ -51,7 +51,7 @@ pub enum Start {
 /// How deep `!` and `(` may be nested.
 const MOST_DEPTH: usize = 100;
 
-/// What a word begins where a factor is due and this many `!` and `(` are open, if it begins something.
+/// What a word begins if a factor is due and this many `!` and `(` are open, if it begins something.
 pub fn start_of(token: Option<Token>, depth: usize) -> Option<Start>
     ensures { result ≡ starting depth token }
 {
