@@ -1,4 +1,4 @@
-mod Asked
+pub mod Asked
 mod Building
 mod Numbers
 mod Parsed

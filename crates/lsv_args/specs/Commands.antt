@@ -11,7 +11,7 @@ from_to low high = Signed (pos low) (pos high)
 
 -- how many lanes may be asked for
 abbrev pub most_lanes : ℕ
-most_lanes = 1
+most_lanes = 4
 
 -- `-f FILE`
 abbrev pub conf : Rule

@@ -6,9 +6,9 @@ ghost use Rattle.lsv_args.specs.Commands.{commands, conf, count, lanes, load, on
 use clap::{Arg, Command, value_parser};
 use std::alloc::{AllocError, Global};
 
-/// How many lanes may be asked for.
-const MOST_LANES: i64 = 1;
-/// How many generated connections may be asked for.
+/// This many lanes may be asked for.
+pub const MOST_LANES: i64 = 4;
+/// This many generated connections may be asked for.
 const MOST_CONNECTIONS: i64 = 10_000;
 
 /// `-f FILE`
