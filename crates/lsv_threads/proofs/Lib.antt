@@ -11,3 +11,6 @@ pub mod Placing
 pub mod Serving
 pub mod Saying
 pub mod Preparing
+pub mod Lifting
+pub mod Stopping
+pub mod Ending

@@ -1,5 +1,5 @@
 -- Sides that were made of fresh parts may start.
-use Rattle.std.proofs.Common.{◌≡◌, ℕ, zero, suc, ◌<◌, true, false, Some, None, Option, List, [], ◌∷◌, ◌++◌, get_or, length, refl, sym, ap, ◌∙◌, subst, arith}
+use Rattle.std.proofs.Common.{◌≡◌, ℕ, zero, suc, ◌<◌, false, Some, None, Option, List, [], ◌∷◌, ◌++◌, get_or, length, refl, sym, ap, ◌∙◌, subst, arith}
 use Rattle.std.specs.Prelude.{slice_get}
 use Rattle.std.specs.declared.alloc.Global.{Global}
 use Rattle.std.specs.declared.vec.Vec.{Vec}
@@ -23,7 +23,6 @@ use Rattle.lsv_threads.specs.Parts.{IsLaneSide, IsWorkerSide}
 use Rattle.lsv_threads.specs.Rows.{ArePasses}
 use Rattle.lsv_threads.specs.Run.{AreFresh, AreFreshLanes, AreLaid}
 use Rattle.lsv_threads.specs.Running.{MayRun}
-use Rattle.lsv_threads.specs.Served.{AreServed}
 use Rattle.lsv_threads.specs.Threads.{IsLanePlaced, IsPlaced}
 use Rattle.lsv_threads.specs.WorkerSides as worker_sides
 use Rattle.lsv_threads.specs.declared.lane_side.LaneSide.{LaneSide}
@@ -152,6 +151,7 @@ module _ {T L : Type 0} (words : Endpoint.Ghosts T) (lane_words : Lane.Ghosts L)
       dropped = [];
       made = fresh.begun k side.lane is_way.lane;
       are = tt;
+      to_these = λ k e. tt;
       asked = λ told. none_asked;
       jobs = ap (λ t. items_of t.got) way_got;
       none = λ e. refl;
@@ -177,15 +177,3 @@ module _ {T L : Type 0} (words : Endpoint.Ghosts T) (lane_words : Lane.Ghosts L)
     workers_are = λ i d less. worker_placed i (get_or workers i d) (slice_get-get_or workers i d less) starts fresh;
     lanes_are = λ i d less. way_placed i (get_or ways i d) (slice_get-get_or ways i d less) begins fresh_lanes;
   }
-
--- no lane made a turn
-pub none_served : {T L : Type 0} (words : Endpoint.Ghosts T) (lane_words : Lane.Ghosts L) (endpoints : List T) (lanes : List L) (starts : ℕ → words.Start) (begins : ℕ → lane_words.Start) → AreFreshLanes lane_words lanes begins
-    → AreServed words lane_words starts begins endpoints lanes true
-none_served {T} words lane_words endpoints lanes starts begins fresh_lanes = record {
-  turns = λ l. [];
-  past = λ l high. refl;
-  made = λ l lane at. fresh_lanes.begun l lane at;
-  are = λ l. tt;
-  asked = λ told l. none_asked;
-  endpoints_are = λ e. absurd cc;
-}

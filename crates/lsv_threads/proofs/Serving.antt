@@ -1,5 +1,5 @@
 -- What the joined passes of all threads say of endpoints and lanes.
-use Rattle.std.proofs.Common.{◌≡◌, ◌≢◌, ℕ, zero, suc, ◌<◌, ◌≤◌, Bool, false, Some, None, Option, List, [], ◌∷◌, ◌++◌, All, map, length, refl, sym, ap, ◌∙◌, subst, append-nil, arith}
+use Rattle.std.proofs.Common.{◌≡◌, ◌≢◌, ℕ, zero, suc, ◌<◌, ◌≤◌, Bool, true, false, Some, None, Option, List, [], ◌∷◌, ◌++◌, All, map, length, refl, sym, ap, ◌∙◌, subst, append-nil, arith}
 use Rattle.std.specs.Prelude.{◌==◌, if◌then◌else◌, slice_get}
 use Rattle.std.specs.List.{filter}
 use Rattle.std.specs.declared.alloc.Global.{Global}
@@ -11,6 +11,7 @@ use Rattle.std.proofs.lemmas.List.Elements.{All-from_recursion}
 use Rattle.std.proofs.lemmas.Option.{slice_get_past, slice_get_within}
 use mathlib.Core.Logic.{dite}
 use native.Mathlib.Decide.{ℕ_discrete}
+use Rattle.atomic_table.specs.Seated.{TableId}
 use Rattle.lsv_queue.specs.Order.{bodies_from, marks_of}
 use Rattle.lsv_queue.specs.Passes.{items_in, items_of}
 use Rattle.lsv_queue.specs.Settled.{AreReady, AreReceivers, AreRow, AreRows, AreSettled, IsMerge, ReachTo, given_at, puts_at, puts_of}
@@ -24,20 +25,24 @@ use Rattle.lsv_queue.proofs.Merging.{taken_by_key, taken_merges}
 use Rattle.lsv_queue.proofs.Places.{one_there, some_or}
 use Rattle.lsv_session.specs.declared.job.Job.{Job}
 use Rattle.lsv_session.specs.declared.reply.Reply.{Reply}
+use Rattle.lsv_links.specs.Links.{PutsPrefixes}
 use Rattle.lsv_links.specs.Turns.{jobs_of, replies_to}
-use Rattle.lsv_turn.specs.Turns.{AreAskedIn, AreTurns, LaneTurn, jobs_in, replies_in}
+use Rattle.lsv_port.specs.Ledger.{Continues}
+use Rattle.lsv_turn.specs.Turns.{AreAskedIn, AreTaken, IsToThese, LaneTurn, jobs_in, replies_in}
 use Rattle.lsv_turn.specs.declared.lane.Lane
 use Rattle.lsv_threads.specs.Dealt.{AreDealt}
-use Rattle.lsv_threads.specs.Desks.{heard}
+use Rattle.lsv_threads.specs.Desks.{Stands, heard}
 use Rattle.lsv_threads.specs.LaneSides.{Turned}
 use Rattle.lsv_threads.specs.Run.{AreFresh, AreFreshLanes, AreLaid, HasRun}
-use Rattle.lsv_threads.specs.Served.{AreServed, IsMadeBy}
+use Rattle.lsv_threads.specs.Served.{AreTurned, IsLeft}
 use Rattle.lsv_threads.specs.Threads.{AreEnded, IsDone, IsLaneDone}
 use Rattle.lsv_threads.specs.declared.lane_side.LaneSide.{LaneSide}
 use Rattle.lsv_reactor.specs.declared.endpoint.Endpoint
 use Rattle.lsv_threads.specs.declared.worker_side.WorkerSide.{WorkerSide}
 use Rattle.lsv_threads.proofs.Hearing.{EqOr.equal, EqOr.unequal, eq_or}
+use Rattle.lsv_threads.proofs.Lifting.{within_of}
 use Rattle.lsv_threads.proofs.Placing.{dealt_at, get_at, new_list, none_asked, way_got, way_row, way_turned, way_untaken, worker_got, worker_row, worker_stands, worker_untaken}
+use Rattle.lsv_threads.proofs.Turning.{both_none}
 use Rattle.lsv_threads.proofs.Zipping.{all_at, zip_at, zip_length}
 
 -- ---- Lists
@@ -54,6 +59,14 @@ map_had f (x ∷ xs) (suc k) y e = map_had f xs k y e
 jobs_filter : (w : ℕ) (xs : List Job) → jobs_of w xs ≡ filter (λ j. j.conn.worker == w) xs
 jobs_filter w [] = refl
 jobs_filter w (x ∷ xs) = ap (λ (l : List Job). if x.conn.worker == w then x ∷ l else l) (jobs_filter w xs)
+
+if_job : (b : Bool) (x : Job) (xs ys : List Job) → (if b then x ∷ (xs ++ ys) else (xs ++ ys)) ≡ (if b then x ∷ xs else xs) ++ ys
+if_job true x xs ys = refl
+if_job false x xs ys = refl
+
+jobs_append : (w : ℕ) (xs ys : List Job) → jobs_of w (xs ++ ys) ≡ jobs_of w xs ++ jobs_of w ys
+jobs_append w [] ys = refl
+jobs_append w (x ∷ xs) ys = ap (λ (l : List Job). if x.conn.worker == w then x ∷ l else l) (jobs_append w xs ys) ∙ if_job (x.conn.worker == w) x (jobs_of w xs) (jobs_of w ys)
 
 replies_filter : (w : ℕ) (xs : List Reply) → replies_to w xs ≡ filter (λ r. r.conn.worker == w) xs
 replies_filter w [] = refl
@@ -290,37 +303,47 @@ module _ {T L : Type 0} (words : Endpoint.Ghosts T) (lane_words : Lane.Ghosts L)
 
   -- ---- The turns of each lane
 
+  -- a queue, so that no turns are of one
+  some_queue : (q : Queue Job) × (slice_get inboxes 0 ≡ Some q)
+  some_queue = get_at inboxes 0 (let e = laid.inboxes_are in let l = laid.some_lanes in omega arith)
+
   module _ (starts : ℕ → words.Start) (begins : ℕ → lane_words.Start) (fresh : AreFresh words endpoints (length lanes) starts) (fresh_lanes : AreFreshLanes lane_words lanes begins) where
     turned_at : (l : ℕ) (side : LaneSide L) → slice_get lanes_ended l ≡ Some side → Turned lane_words (begins l) side []
     turned_at l side at =
         let f = way_first l side at in
         f.2.turned (begins l) (way_turned words lane_words endpoints lanes inboxes outs rows lane_rows receivers lane_receivers workers ways laid l f.0 f.1 begins fresh_lanes)
 
-    pub record IsTape (l : ℕ) (ts : List LaneTurn) : Type 0 where
-      pub here : (side : LaneSide L) → slice_get lanes_ended l ≡ Some side → (t : Turned lane_words (begins l) side []) × (t.turns ≡ ts)
-      pub past : length lanes ≤ l → ts ≡ []
-      pub are : AreTurns 0 ts
+    -- the turns of the lane at this place, and the jobs that it dropped
+    pub record IsTape (l : ℕ) (ts : List LaneTurn) (lost : List Job) : Type 0 where
+      pub here : (side : LaneSide L) → slice_get lanes_ended l ≡ Some side → (t : Turned lane_words (begins l) side []) × (t.turns ≡ ts) × (t.dropped ≡ lost)
+      pub past : length lanes ≤ l → (ts ≡ []) × (lost ≡ [])
+      pub are : (queue : TableId) × AreTaken queue 0 ts
+      pub to_these : IsToThese (jobs_in ts) (replies_in ts)
       pub asked : lane_words.tells → AreAskedIn ts
 
-    pub tape : (l : ℕ) → (ts : List LaneTurn) × IsTape l ts
+    pub tape : (l : ℕ) → (ts : List LaneTurn) × (lost : List Job) × IsTape l ts lost
     tape l = go (slice_get lanes_ended l) refl
       where
-        go : (o : Option (LaneSide L)) → slice_get lanes_ended l ≡ o → (ts : List LaneTurn) × IsTape l ts
+        go : (o : Option (LaneSide L)) → slice_get lanes_ended l ≡ o → (ts : List LaneTurn) × (lost : List Job) × IsTape l ts lost
         go None e = (
+          [],
           [],
           record {
             here = λ side at. let no : None ≡ Some side = sym e ∙ at in absurd cc;
-            past = λ high. refl;
-            are = tt;
+            past = λ high. (refl, refl);
+            are = (some_queue.0.name, tt);
+            to_these = λ k none. tt;
             asked = λ told. none_asked;
           },
         )
         go (Some s) e = (
           (turned_at l s e).turns,
+          (turned_at l s e).dropped,
           record {
-            here = λ side at. subst (λ (z : LaneSide L). (t : Turned lane_words (begins l) z []) × (t.turns ≡ (turned_at l s e).turns)) (one_there lanes_ended l s side e at) (turned_at l s e, refl);
+            here = λ side at. subst (λ (z : LaneSide L). (t : Turned lane_words (begins l) z []) × (t.turns ≡ (turned_at l s e).turns) × (t.dropped ≡ (turned_at l s e).dropped)) (one_there lanes_ended l s side e at) (turned_at l s e, refl, refl);
             past = λ high. absurd (let b = slice_get_within lanes_ended l s e in let d = lanes_size in omega arith);
-            are = (turned_at l s e).are;
+            are = (s.taken.queue, (turned_at l s e).are);
+            to_these = (turned_at l s e).to_these;
             asked = (turned_at l s e).asked;
           },
         )
@@ -328,14 +351,15 @@ module _ {T L : Type 0} (words : Endpoint.Ghosts T) (lane_words : Lane.Ghosts L)
     abbrev pub turns : ℕ → List LaneTurn
     turns l = (tape l).0
 
-    -- ---- Nothing was lost
-    module _ (settled : AreSettled jobs_taken (map (λ v. v.items) job_rows)) (replies_settled : AreSettled replies_taken (map (λ v. v.items) reply_rows))
-        (going : All (λ (s : WorkerSide T). s.desk.stopped ≡ false) ended) (working : All (λ (s : LaneSide L). s.failed ≡ false) lanes_ended) where
-      -- all jobs that the lane's pass took are those of its turns
-      lane_jobs : (l : ℕ) (side : LaneSide L) → slice_get lanes_ended l ≡ Some side → items_of side.taken.taken.got ≡ jobs_in (turns l)
+    abbrev pub lost_by : ℕ → List Job
+    lost_by l = (tape l).1
+
+    module _ (settled : AreSettled jobs_taken (map (λ v. v.items) job_rows)) (replies_settled : AreSettled replies_taken (map (λ v. v.items) reply_rows)) where
+      -- all jobs that the lane's pass took are those of its turns, and those that it dropped
+      lane_jobs : (l : ℕ) (side : LaneSide L) → slice_get lanes_ended l ≡ Some side → items_of side.taken.taken.got ≡ jobs_in (turns l) ++ lost_by l
       lane_jobs l side at =
-          let h = (tape l).1.here side at in
-          h.0.jobs ∙ (ap (λ d. jobs_in h.0.turns ++ (d ++ [])) (h.0.none (all_at (λ (s : LaneSide L). s.failed ≡ false) lanes_ended l side working at)) ∙ (append-nil (jobs_in h.0.turns) ∙ ap jobs_in h.1))
+          let h = (tape l).2.here side at in
+          h.0.jobs ∙ (ap (λ d. jobs_in h.0.turns ++ d) (append-nil h.0.dropped ∙ h.2) ∙ ap (λ ts. jobs_in ts ++ lost_by l) h.1)
 
       own_rows : (k s : ℕ) (row : List (InPass Job)) → slice_get (map (λ v. v.items) job_rows) s ≡ Some row → All (λ (x : Job). x.conn.worker ≡ s) (puts_at row k)
       own_rows k s row at =
@@ -350,31 +374,42 @@ module _ {T L : Type 0} (words : Endpoint.Ghosts T) (lane_words : Lane.Ghosts L)
       worker_row_at : (w : ℕ) (side : WorkerSide T) → slice_get ended w ≡ Some side → slice_get (map (λ v. v.items) job_rows) w ≡ Some side.put.items
       worker_row_at w side at = map_get (λ (v : Vec (InPass Job) Global). v.items) job_rows w side.put (map_get (λ (s : WorkerSide T). s.put) ended w side at)
 
-      -- what a worker put to a lane is what that took of it
-      jobs_at : (w : ℕ) (side : WorkerSide T) → slice_get ended w ≡ Some side → (k : ℕ) → puts_at side.put.items k ≡ jobs_of w (jobs_in (turns k))
-      jobs_at w side at k = dite (dec_le (length lanes) k)
-          (λ (high : length lanes ≤ k).
-          let none : slice_get side.put.items k ≡ None = slice_get_past side.put.items k (let e = wide_ended w side at in omega arith) in
-          ap puts_of none ∙ sym (ap (λ ts. jobs_of w (jobs_in ts)) ((tape k).1.past high)))
-          (λ low.
+      -- the jobs that a lane took of a worker are what that put to it
+      jobs_given : (w k : ℕ) → k < length lanes → given_at k (slice_get (map (λ v. v.items) job_rows) w) ≡ jobs_of w (jobs_in (turns k)) ++ jobs_of w (lost_by k)
+      jobs_given w k low =
           let less : k < length inboxes = let e = laid.inboxes_are in omega (arith, low) in
           let way = get_at lanes_ended k (let e = lanes_size in omega (arith, low)) in
           let t_at = map_get (λ (s : LaneSide L). s.taken) lanes_ended k way.0 way.1 in
-          sym (ap (jobs_of w) (sym (lane_jobs k way.0 way.1)) ∙ (jobs_filter w (items_of way.0.taken.taken.got)
-          ∙ (taken_by_key jobs_taken (map (λ v. v.items) job_rows) settled k way.0.taken t_at (jobs_reach k less) (λ (x : Job). x.conn.worker) (own_rows k) w
-          ∙ ap (given_at k) (worker_row_at w side at)))))
+          sym (taken_by_key jobs_taken (map (λ v. v.items) job_rows) settled k way.0.taken t_at (jobs_reach k less) (λ (x : Job). x.conn.worker) (own_rows k) w)
+          ∙ (sym (jobs_filter w (items_of way.0.taken.taken.got)) ∙ (ap (jobs_of w) (lane_jobs k way.0 way.1) ∙ jobs_append w (jobs_in (turns k)) (lost_by k)))
+
+      jobs_at : (w : ℕ) (side : WorkerSide T) → slice_get ended w ≡ Some side → (k : ℕ) → puts_at side.put.items k ≡ jobs_of w (jobs_in (turns k)) ++ jobs_of w (lost_by k)
+      jobs_at w side at k = dite (dec_le (length lanes) k)
+          (λ (high : length lanes ≤ k).
+          let none : slice_get side.put.items k ≡ None = slice_get_past side.put.items k (let e = wide_ended w side at in omega arith) in
+          let past = (tape k).2.past high in
+          ap puts_of none ∙ sym (ap (λ ts. jobs_of w (jobs_in ts) ++ jobs_of w (lost_by k)) past.0 ∙ ap (jobs_of w) past.1))
+          (λ low. ap (given_at k) (sym (worker_row_at w side at)) ∙ jobs_given w k (omega (arith, low)))
+
+      -- no lane took a job of a worker that isn't there
+      no_other : (l w : ℕ) → length endpoints ≤ w → jobs_of w (jobs_in (turns l)) ≡ []
+      no_other l w high = dite (dec_le (length lanes) l)
+          (λ (past : length lanes ≤ l). ap (λ ts. jobs_of w (jobs_in ts)) ((tape l).2.past past).0)
+          (λ low.
+          let none : slice_get (map (λ v. v.items) job_rows) w ≡ None = slice_get_past (map (λ v. v.items) job_rows) w (let a = length-map job_rows (λ (v : Vec (InPass Job) Global). v.items) in let b = jobs_size in omega (arith, high)) in
+          (both_none (jobs_of w (jobs_in (turns l))) (jobs_of w (lost_by l)) (sym (jobs_given w l (omega (arith, low))) ∙ ap (given_at l) none)).0)
 
       -- what a lane put to a worker is what its turns reply to it
       given_is : (w : ℕ) → w < length endpoints → (l : ℕ) → given_at w (slice_get (map (λ v. v.items) reply_rows) l) ≡ replies_to w (replies_in (turns l))
       given_is w less l = dite (dec_le (length lanes) l)
           (λ (high : length lanes ≤ l).
           ap (given_at w) (slice_get_past (map (λ v. v.items) reply_rows) l (let a = length-map reply_rows (λ (v : Vec (InPass Reply) Global). v.items) in let b = replies_size in omega arith))
-          ∙ sym (ap (λ ts. replies_to w (replies_in ts)) ((tape l).1.past high)))
+          ∙ sym (ap (λ ts. replies_to w (replies_in ts)) ((tape l).2.past high).0))
           (λ low.
           let way = get_at lanes_ended l (let e = lanes_size in omega (arith, low)) in
           let row_at = map_get (λ (v : Vec (InPass Reply) Global). v.items) reply_rows l way.0.given (map_get (λ (s : LaneSide L). s.given) lanes_ended l way.0 way.1) in
           let f = way_first l way.0 way.1 in
-          let h = (tape l).1.here way.0 way.1 in
+          let h = (tape l).2.here way.0 way.1 in
           let wide : w < length way.0.given.items =
           let a = f.2.given.size in let b = (way_row words lane_words endpoints lanes inboxes outs rows lane_rows receivers lane_receivers workers ways laid l f.0 f.1).1.size in let d = laid.outs_are in omega arith in
           ap (given_at w) row_at ∙ (h.0.gave w wide ∙ ap (λ ts. replies_to w (replies_in ts)) h.1))
@@ -392,32 +427,66 @@ module _ {T L : Type 0} (words : Endpoint.Ghosts T) (lane_words : Lane.Ghosts L)
           let his : replies_to w (items_of side.desk.taken.taken.got) ≡ items_of side.desk.taken.taken.got = merge_his w (items_of side.desk.taken.taken.got) (λ l. replies_to w (replies_in (turns l))) merge (λ l. to_twice w (replies_in (turns l))) in
           subst (λ (n : ℕ). IsMerge (replies_to n (items_of side.desk.taken.taken.got)) (λ l. replies_to w (replies_in (turns l)))) (sym number) (subst (λ (z : List Reply). IsMerge z (λ l. replies_to w (replies_in (turns l)))) (sym his) merge)
 
-      made_at : (w : ℕ) (side : WorkerSide T) → slice_get ended w ≡ Some side → IsMadeBy words (starts w) side.desk.endpoint w turns
-      made_at w side at =
+      stands_at : (w : ℕ) (side : WorkerSide T) → slice_get ended w ≡ Some side → Stands words (starts w) side.desk (puts_at side.put.items)
+      stands_at w side at =
           let f = worker_first w side at in
           let first_going : f.0.desk.stopped ≡ false = (laid.workers_are.each w f.0 f.1).stopped in
-          let stands = f.2.stands (starts w) (record {
+          f.2.stands (starts w) (record {
             made = λ e. worker_stands words lane_words endpoints lanes inboxes outs rows lane_rows receivers lane_receivers workers ways laid w f.0 f.1 starts fresh;
             put = λ e. absurd (let no = sym e ∙ first_going in cc);
-          }) in record {
-            took = heard side.desk;
-            made = subst (λ (g : ℕ → List Job). words.made_by (starts w) side.desk.endpoint g (heard side.desk)) (fun_ext (jobs_at w side at)) (stands.made (all_at (λ (s : WorkerSide T). s.desk.stopped ≡ false) ended w side going at));
-            merge = took_is w side at;
-          }
+          })
 
-    pub are_served : (lost : Bool) → (lost ≡ false → All (λ (s : WorkerSide T). s.desk.stopped ≡ false) ended) → (lost ≡ false → All (λ (s : LaneSide L). s.failed ≡ false) lanes_ended)
-        → AreSettled jobs_taken (map (λ v. v.items) job_rows) → AreSettled replies_taken (map (λ v. v.items) reply_rows)
-        → AreServed words lane_words starts begins (map (λ s. s.desk.endpoint) ended) (map (λ s. s.lane) lanes_ended) lost
-    are_served lost going working settled replies_settled = record {
-      turns = turns;
-      past = λ l high. (tape l).1.past (let e = length-map lanes_ended (λ (s : LaneSide L). s.lane) in let d = lanes_size in omega arith);
-      made = λ l lane at.
-          let h = map_had (λ (s : LaneSide L). s.lane) lanes_ended l lane at in
-          let t = (tape l).1.here h.0 h.1 in
-          subst (λ (z : L). lane_words.made_by (begins l) z (turns l)) (sym h.2) (subst (λ (ts : List LaneTurn). lane_words.made_by (begins l) h.0.lane ts) t.1 t.0.made);
-      are = λ l. (tape l).1.are;
-      asked = λ told l. (tape l).1.asked told;
-      endpoints_are = λ e w endpoint at.
-          let h = map_had (λ (s : WorkerSide T). s.desk.endpoint) ended w endpoint at in
-          subst (λ (z : T). IsMadeBy words (starts w) z w turns) (sym h.2) (made_at settled replies_settled (going e) (working e) w h.0 h.1);
-    }
+      -- ---- How much was lost
+
+      module _ (failed : Bool) (working : failed ≡ false → All (λ (s : LaneSide L). s.failed ≡ false) lanes_ended) where
+        none_lost : failed ≡ false → (l : ℕ) → lost_by l ≡ []
+        none_lost e l = dite (dec_le (length lanes) l)
+            (λ (high : length lanes ≤ l). ((tape l).2.past high).1)
+            (λ low.
+            let way = get_at lanes_ended l (let d = lanes_size in omega (arith, low)) in
+            let h = (tape l).2.here way.0 way.1 in
+            sym h.2 ∙ h.0.none (all_at (λ (s : LaneSide L). s.failed ≡ false) lanes_ended l way.0 (working e) way.1))
+
+        left_at : (w : ℕ) (side : WorkerSide T) → slice_get ended w ≡ Some side → (stopped : Bool) → side.desk.stopped ≡ stopped → IsLeft words (starts w) (length lanes) w side.desk.endpoint stopped failed turns
+        left_at w side at stopped same =
+            let f = worker_first w side at in
+            let number : side.desk.number ≡ w = f.2.desk.number_is ∙ (laid.workers_are.each w f.0 f.1).number in
+            let stands = stands_at w side at in record {
+              gave = puts_at side.put.items;
+              dropped = λ l. jobs_of w (lost_by l);
+              took = heard side.desk;
+              gave_are = jobs_at w side at;
+              none = λ e l. ap (jobs_of w) (none_lost e l);
+              merge = took_is w side at;
+              number_is = λ e. f.2.number_is (same ∙ e) ∙ number;
+              lanes_are = λ e. f.2.lanes_are (same ∙ e) ∙ wide_ended w side at;
+              made = λ e. stands.made (same ∙ e);
+              put = λ e told. subst (λ (n : ℕ). PutsPrefixes n (puts_at side.put.items) (λ l. heard side.desk) (words.begun (starts w)) (words.view side.desk.endpoint)) number (stands.put (same ∙ e) told);
+            }
+
+        pub are_turned : AreTurned words lane_words starts begins endpoints (length lanes) (map (λ s. s.desk.endpoint) ended) (map (λ s. s.desk.stopped) ended) (map (λ s. s.lane) lanes_ended) failed
+        are_turned = record {
+          turns = turns;
+          past = λ l high. ((tape l).2.past high).0;
+          made = λ l lane at.
+              let h = map_had (λ (s : LaneSide L). s.lane) lanes_ended l lane at in
+              let t = (tape l).2.here h.0 h.1 in
+              subst (λ (z : L). lane_words.made_by (begins l) z (turns l)) (sym h.2) (subst (λ (ts : List LaneTurn). lane_words.made_by (begins l) h.0.lane ts) t.1 t.0.made);
+          are = λ l. (tape l).2.are;
+          asked = λ told l. (tape l).2.asked told;
+          to_these = λ l. (tape l).2.to_these;
+          left = λ w endpoint stopped at noted.
+              let h = map_had (λ (s : WorkerSide T). s.desk.endpoint) ended w endpoint at in
+              let n = map_had (λ (s : WorkerSide T). s.desk.stopped) ended w stopped noted in
+              let same : h.0.desk.stopped ≡ stopped = ap (λ (s : WorkerSide T). s.desk.stopped) (one_there ended w h.0 n.0 h.1 n.1) ∙ sym n.2 in
+              subst (λ (z : T). IsLeft words (starts w) (length lanes) w z stopped failed turns) (sym h.2) (left_at w h.0 h.1 stopped same);
+          within = λ l job has. within_of (length endpoints) (jobs_in (turns l)) (no_other l) job has;
+          size = length-map ended (λ (s : WorkerSide T). s.desk.endpoint) ∙ ended_size;
+          stops_size = length-map ended (λ (s : WorkerSide T). s.desk.stopped) ∙ ended_size;
+          lanes_size = length-map lanes_ended (λ (s : LaneSide L). s.lane) ∙ lanes_size;
+          keep = λ w old new a e.
+              let h = map_had (λ (s : WorkerSide T). s.desk.endpoint) ended w new e in
+              let f = worker_first w h.0 h.1 in
+              subst (λ (z : T). Continues (words.view old).ledger (words.view z).ledger) (sym h.2)
+              (subst (λ (z : T). Continues (words.view z).ledger (words.view h.0.desk.endpoint).ledger) (sym (one_there endpoints w old f.0.desk.endpoint a (laid.workers_are.each w f.0 f.1).endpoint)) f.2.desk.continues);
+        }

@@ -3,19 +3,23 @@ use Rattle.std.proofs.Common.{◌≡◌, ℕ, ◌+◌, ◌<◌, ◌≤◌, true,
 use Rattle.std.specs.Prelude.{◌==◌, slice_get}
 use Rattle.std.proofs.lemmas.List.{length-append, length-set}
 use Rattle.std.proofs.lemmas.Grind.{flat_map-append}
+use Rattle.atomic_table.specs.Seated.{TableId}
 use Rattle.lsv_queue.specs.Order.{after_body}
 use Rattle.lsv_queue.specs.Passes.{items_of}
 use Rattle.lsv_queue.specs.Settled.{puts_at}
 use Rattle.lsv_queue.specs.declared.queue.InPass.{InPass}
 use Rattle.lsv_queue.specs.declared.queue.OutPass.{OutPass}
 use Rattle.lsv_queue.specs.declared.queue.Queue.{Queue}
+use Rattle.lsv_session.specs.Transcript.{bodies_of}
+use Rattle.lsv_session.specs.declared.connection.ConnId.{ConnId}
 use Rattle.lsv_session.specs.declared.job.Job.{Job}
 use Rattle.lsv_session.specs.declared.reply.Reply.{Reply}
+use Rattle.lsv_session.proofs.Replies.{bodies_of-append}
 use Rattle.lsv_links.specs.Turns.{replies_to}
-use Rattle.lsv_turn.specs.Turns.{AreAskedIn, AreTurns, IsTurn, LaneTurn, jobs_in, replies_in}
+use Rattle.lsv_turn.specs.Turns.{AreAskedIn, AreTaken, IsTaken, IsToThese, LaneTurn, NoneFor, jobs_in, replies_in}
 use Rattle.lsv_turn.specs.declared.lane.Lane
 use Rattle.lsv_threads.specs.Rows.{ArePasses, Gives}
-use Rattle.lsv_threads.specs.LaneSides.{IsFrom, IsTurning, Turned}
+use Rattle.lsv_threads.specs.LaneSides.{IsFrom, IsTurning, Turned, gap_of}
 use Rattle.lsv_threads.specs.declared.lane_side.LaneSide.{LaneSide}
 use Rattle.lsv_threads.proofs.Hearing.{EqOr.equal, EqOr.unequal, eq_or, replies_append}
 use Rattle.lsv_threads.proofs.Rowing.{passes_ended, puts_ended}
@@ -35,21 +39,38 @@ jobs_push ts t = flat_map-append (λ (u : LaneTurn). u.jobs) ts (t ∷ []) ∙ a
 pub replies_push : (ts : List LaneTurn) (t : LaneTurn) → replies_in (ts ++ t ∷ []) ≡ replies_in ts ++ t.replies
 replies_push ts t = flat_map-append (λ (u : LaneTurn). u.replies) ts (t ∷ []) ∙ ap (λ z. replies_in ts ++ z) (append-nil t.replies)
 
-pub turns_push : (n : ℕ) (ts : List LaneTurn) (t : LaneTurn) → AreTurns n ts → IsTurn (n + length (jobs_in ts)) t → AreTurns n (ts ++ t ∷ [])
-turns_push n [] t h is = (subst (λ (k : ℕ). IsTurn k t) (omega arith) is, tt)
-turns_push n (u ∷ us) t h is = (h.0, turns_push (n + length u.jobs) us t h.1 (subst (λ (k : ℕ). IsTurn k t) (let e = length-append u.jobs (jobs_in us) in omega arith) is))
+module _ (queue : TableId) where
+  pub turns_push : (n : ℕ) (ts : List LaneTurn) (t : LaneTurn) → AreTaken queue n ts → IsTaken queue (n + length (jobs_in ts)) t → AreTaken queue n (ts ++ t ∷ [])
+  turns_push n [] t h is = (subst (λ (k : ℕ). IsTaken queue k t) (omega arith) is, tt)
+  turns_push n (u ∷ us) t h is = (h.0, turns_push (n + length u.jobs) us t h.1 (subst (λ (k : ℕ). IsTaken queue k t) (let e = length-append u.jobs (jobs_in us) in omega arith) is))
+
+-- the first of two lists without an element has none, and so the other
+pub both_none : {A : Type 0} (xs ys : List A) → xs ++ ys ≡ [] → (xs ≡ []) × (ys ≡ [])
+both_none [] ys e = (refl, e)
+both_none (x ∷ xs) ys e = absurd cc
+
+none_append : (k : ConnId) (xs ys : List Reply) → NoneFor k xs → NoneFor k ys → NoneFor k (xs ++ ys)
+none_append k [] ys h i = i
+none_append k (x ∷ xs) ys h i = (h.0, none_append k xs ys h.1 i)
+
+pub to_these_push : (ts : List LaneTurn) (t : LaneTurn) → IsToThese (jobs_in ts) (replies_in ts) → IsToThese t.jobs t.replies → IsToThese (jobs_in (ts ++ t ∷ [])) (replies_in (ts ++ t ∷ []))
+to_these_push ts t olds new k e =
+    let split : bodies_of k (jobs_in (ts ++ t ∷ [])) ≡ bodies_of k (jobs_in ts) ++ bodies_of k t.jobs = ap (bodies_of k) (jobs_push ts t) ∙ bodies_of-append k (jobs_in ts) t.jobs in
+    let none = both_none (bodies_of k (jobs_in ts)) (bodies_of k t.jobs) (sym split ∙ e) in
+    subst (λ (rs : List Reply). NoneFor k rs) (sym (replies_push ts t)) (none_append k (replies_in ts) t.replies (olds k none.0) (new k none.1))
 
 abbrev pub with_taken : {L : Type 0} (side : LaneSide L) (taken : OutPass Job) → LaneSide L
 with_taken {L} side taken = record { lane = side.lane; number = side.number; taken = taken; given = side.given; ended = side.ended; failed = side.failed }
 
 module _ {L : Type 0} (words : Lane.Ghosts L) (outs : List (Queue Reply)) where
   -- jobs were taken
-  turned_taken : (start : words.Start) (side : LaneSide L) (taken : OutPass Job) (jobs : List Job) → items_of taken.taken.got ≡ items_of side.taken.taken.got ++ jobs → Turned words start side [] → Turned words start (with_taken side taken) jobs
-  turned_taken start side taken jobs more t = record {
+  turned_taken : (start : words.Start) (side : LaneSide L) (taken : OutPass Job) (jobs : List Job) → taken.queue ≡ side.taken.queue → items_of taken.taken.got ≡ items_of side.taken.taken.got ++ jobs → Turned words start side [] → Turned words start (with_taken side taken) jobs
+  turned_taken start side taken jobs queue more t = record {
     turns = t.turns;
     dropped = t.dropped;
     made = t.made;
-    are = t.are;
+    are = subst (λ (q : TableId). AreTaken q 0 t.turns) (sym queue) t.are;
+    to_these = t.to_these;
     asked = t.asked;
     jobs = more ∙ (ap (λ l. l ++ jobs) (t.jobs ∙ ap (λ l. jobs_in t.turns ++ l) (append-nil t.dropped)) ∙ append_assoc (jobs_in t.turns) t.dropped jobs);
     none = t.none;
@@ -63,8 +84,8 @@ module _ {L : Type 0} (words : Lane.Ghosts L) (outs : List (Queue Reply)) where
     passes = from.passes;
     queue = queue ∙ from.queue;
     joined = joined ∙ from.joined;
-    begun = (from.begun.0, turned_taken from.begun.0 side taken jobs more from.begun.1);
-    turned = λ start t. turned_taken start side taken jobs more (from.turned start t);
+    begun = (from.begun.0, turned_taken from.begun.0 side taken jobs queue more from.begun.1);
+    turned = λ start t. turned_taken start side taken jobs queue more (from.turned start t);
   }
 
   -- memory ran out, or had: jobs are dropped
@@ -75,7 +96,8 @@ module _ {L : Type 0} (words : Lane.Ghosts L) (outs : List (Queue Reply)) where
       turns = t.turns;
       dropped = t.dropped ++ jobs;
       made = made start t.turns t.made;
-      are = t.are;
+      are = subst (λ (o : OutPass Job). AreTaken o.queue 0 t.turns) (sym taken) t.are;
+      to_these = t.to_these;
       asked = t.asked;
       jobs = ap (λ (o : OutPass Job). items_of o.taken.got) taken ∙ (t.jobs ∙ ap (λ l. jobs_in t.turns ++ l) (sym (append-nil (t.dropped ++ jobs))));
       none = λ e. absurd (let no = sym failed ∙ e in cc);
@@ -94,16 +116,21 @@ module _ {L : Type 0} (words : Lane.Ghosts L) (outs : List (Queue Reply)) where
 
   -- a turn of these jobs was made, and its replies given
   module _ (side new : LaneSide L) (number : new.number ≡ side.number) (turn : LaneTurn) (going : side.failed ≡ false) (taken : new.taken ≡ side.taken) (some : 1 ≤ length turn.jobs) (most : length turn.jobs ≤ 256)
-      (gap : length turn.jobs < 256 → turn.gap ≡ Some (length (items_of side.taken.taken.got))) (gives : Gives outs side.given.items new.given.items turn.replies)
+      (gap : length turn.jobs < 256 → turn.gap ≡ Some (gap_of side.taken)) (gives : Gives outs side.given.items new.given.items turn.replies)
       (made : (start : words.Start) (turns : List LaneTurn) → words.made_by start side.lane turns → words.made_by start new.lane (turns ++ turn ∷ []))
-      (asked : words.tells → (start : words.Start) (turns : List LaneTurn) → words.made_by start side.lane turns → AreAskedIn (turns ++ turn ∷ [])) where
+      (to_these : IsToThese turn.jobs turn.replies) (asked : words.tells → (start : words.Start) (turns : List LaneTurn) → words.made_by start side.lane turns → AreAskedIn (turns ++ turn ∷ [])) where
     turned_turn : (start : words.Start) → Turned words start side turn.jobs → Turned words start new []
     turned_turn start t =
         let all : items_of side.taken.taken.got ≡ jobs_in t.turns ++ turn.jobs = t.jobs ∙ ap (λ d. jobs_in t.turns ++ (d ++ turn.jobs)) (t.none going) in record {
           turns = t.turns ++ turn ∷ [];
           dropped = [];
           made = made start t.turns t.made;
-          are = turns_push 0 t.turns turn t.are (record { some = some; most = most; gap = λ few. gap few ∙ ap Some (let e = ap length all in let f = length-append (jobs_in t.turns) turn.jobs in omega arith) });
+          are = subst (λ (o : OutPass Job). AreTaken o.queue 0 (t.turns ++ turn ∷ [])) (sym taken) (turns_push side.taken.queue 0 t.turns turn t.are (record {
+            some = some;
+            most = most;
+            gap = λ few. gap few ∙ ap (λ (n : ℕ). Some (record { queue = side.taken.queue; at = n })) (let e = ap length all in let f = length-append (jobs_in t.turns) turn.jobs in omega arith);
+          }));
+          to_these = to_these_push t.turns turn t.to_these to_these;
           asked = λ told. asked told start t.turns t.made;
           jobs = ap (λ (o : OutPass Job). items_of o.taken.got) taken ∙ (all ∙ (sym (jobs_push t.turns turn) ∙ sym (append-nil (jobs_in (t.turns ++ turn ∷ [])))));
           none = λ e. refl;
@@ -130,7 +157,8 @@ module _ {L : Type 0} (words : Lane.Ghosts L) (outs : List (Queue Reply)) where
       turns = t.turns;
       dropped = t.dropped;
       made = subst (λ (l : L). words.made_by start l t.turns) (sym lane) t.made;
-      are = t.are;
+      are = subst (λ (o : OutPass Job). AreTaken o.queue 0 t.turns) (sym taken) t.are;
+      to_these = t.to_these;
       asked = t.asked;
       jobs = ap (λ (o : OutPass Job). items_of o.taken.got) taken ∙ t.jobs;
       none = λ e. t.none (sym failed ∙ e);
@@ -156,7 +184,8 @@ module _ {L : Type 0} (words : Lane.Ghosts L) (outs : List (Queue Reply)) where
         turns = t.turns;
         dropped = t.dropped;
         made = subst (λ (l : L). words.made_by start l t.turns) (sym lane) t.made;
-        are = t.are;
+        are = subst (λ (o : OutPass Job). AreTaken o.queue 0 t.turns) (sym taken) t.are;
+        to_these = t.to_these;
         asked = t.asked;
         jobs = ap (λ (o : OutPass Job). items_of o.taken.got) taken ∙ t.jobs;
         none = λ e. t.none (sym failed ∙ e);

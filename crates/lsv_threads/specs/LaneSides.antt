@@ -1,16 +1,21 @@
 -- What a lane's thread has.
 use Rattle.std.specs.Prelude.{◌≡◌, ◌<◌, ◌++◌, ℕ, false, List, [], length}
 use Rattle.lsv_queue.specs.Order.{marks_of}
-use Rattle.lsv_queue.specs.Passes.{items_of}
+use Rattle.lsv_queue.specs.Passes.{GapSeen, items_of}
 use Rattle.lsv_queue.specs.Settled.{puts_at}
+use Rattle.lsv_queue.specs.declared.queue.OutPass.{OutPass}
 use Rattle.lsv_queue.specs.declared.queue.Queue.{Queue}
 use Rattle.lsv_session.specs.declared.job.Job.{Job}
 use Rattle.lsv_session.specs.declared.reply.Reply.{Reply}
 use Rattle.lsv_links.specs.Turns.{replies_to}
-use Rattle.lsv_turn.specs.Turns.{AreAskedIn, AreTurns, LaneTurn, jobs_in, replies_in}
+use Rattle.lsv_turn.specs.Turns.{AreAskedIn, AreTaken, IsToThese, LaneTurn, jobs_in, replies_in}
 use Rattle.lsv_turn.specs.declared.lane.Lane
 use Rattle.lsv_threads.specs.Rows.{ArePasses}
 use Rattle.lsv_threads.specs.declared.lane_side.LaneSide.{LaneSide}
+
+-- the empty pop that a pass meets after what it took
+abbrev pub gap_of : OutPass Job → GapSeen
+gap_of pass = record { queue = pass.queue; at = length (items_of pass.taken.got) }
 
 module _ {L : Type 0} (words : Lane.Ghosts L) where
   -- The turns that the lane made since this start. Their jobs, then those that it dropped, and then these are what its pass took.
@@ -19,7 +24,8 @@ module _ {L : Type 0} (words : Lane.Ghosts L) where
     pub turns : List LaneTurn
     pub dropped : List Job
     pub made : words.made_by start side.lane turns
-    pub are : AreTurns 0 turns
+    pub are : AreTaken side.taken.queue 0 turns
+    pub to_these : IsToThese (jobs_in turns) (replies_in turns)
     pub asked : words.tells → AreAskedIn turns
     pub jobs : items_of side.taken.taken.got ≡ jobs_in turns ++ (dropped ++ more)
     pub none : side.failed ≡ false → dropped ≡ []

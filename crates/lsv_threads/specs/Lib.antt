@@ -13,3 +13,4 @@ pub mod Parts
 pub mod Run
 pub mod Served
 pub mod Prepared
+pub mod AtEnd

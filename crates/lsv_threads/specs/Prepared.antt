@@ -25,6 +25,7 @@ pub record IsPrepared {T L : Type 0} (workers lanes : ℕ) (p : Prepared T L) : 
   pub endpoints : HasRoomFor workers p.worker_parts.endpoints
   pub receivers : HasRoomFor workers p.worker_parts.receivers
   pub rows : HasRoomFor workers p.worker_parts.rows
+  pub stops : HasRoomFor workers p.worker_parts.stops
   pub lanes_left : HasRoomFor lanes p.lane_parts.lanes
   pub lane_receivers : HasRoomFor lanes p.lane_parts.receivers
   pub lane_rows : HasRoomFor lanes p.lane_parts.rows

@@ -6,11 +6,10 @@ ghost use Rattle.lsv_queue.specs.Settled.{puts_at};
 ghost use Rattle.lsv_threads.specs.Gates.{AreOpen, KeepsGates, count_of, gates_same, gates_through, gates_lanes};
 
 use crate::Parkings;
-use crate::weight::job_size;
 use lsv_port::Bell;
 use lsv_queue::{InPass, Queue};
 use lsv_session::{Full, Job};
-use lsv_worker::Inbox;
+use lsv_worker::{Inbox, job_size};
 use std::sync::Wait;
 
 /// The most lanes of a server.

@@ -1,8 +1,7 @@
 //! What a lane's thread has, and its steps.
 
 ghost use Rattle.std.specs.Prelude.{◌≡◌, ◌<◌, ◌≤◌, true, false, length, Some};
-ghost use Rattle.lsv_queue.specs.Passes.{items_of};
-ghost use Rattle.lsv_threads.specs.LaneSides.{IsFrom, IsOver, IsTurning};
+ghost use Rattle.lsv_threads.specs.LaneSides.{IsFrom, IsOver, IsTurning, gap_of};
 
 use crate::give::give_all;
 use crate::take::{take_jobs, weigh};
@@ -43,7 +42,7 @@ impl<L: Lane> LaneSide<L> {
         requires none { self.old.ended ≡ 0 }
         requires some { 1 ≤ length jobs.items }
         requires most { length jobs.items ≤ 256 }
-        requires gap { length jobs.items < 256 → gap ≡ Some (length (items_of self.old.taken.taken.got)) }
+        requires gap { length jobs.items < 256 → gap ≡ Some (gap_of self.old.taken) }
         requires from { (first : LaneSide L) × IsTurning ⟦<L as Lane>⟧ outs.now first self.old jobs.items }
         requires ready { M.ready meanwhile.old }
         ensures from { (first : LaneSide L) → IsTurning ⟦<L as Lane>⟧ outs.now first self.old jobs.items → IsFrom ⟦<L as Lane>⟧ outs.now first self.new }
@@ -98,7 +97,7 @@ impl<L: Lane> LaneSide<L> {
     )
         requires some { 1 ≤ length jobs.items }
         requires most { length jobs.items ≤ 256 }
-        requires gap { length jobs.items < 256 → gap ≡ Some (length (items_of self.old.taken.taken.got)) }
+        requires gap { length jobs.items < 256 → gap ≡ Some (gap_of self.old.taken) }
         requires from { (first : LaneSide L) × IsTurning ⟦<L as Lane>⟧ outs.now first self.old jobs.items }
         requires ready { M.ready meanwhile.old }
         ensures from { (first : LaneSide L) → IsTurning ⟦<L as Lane>⟧ outs.now first self.old jobs.items → IsFrom ⟦<L as Lane>⟧ outs.now first self.new }

@@ -1,6 +1,7 @@
 //! A server's threads: one for each worker and one for each lane, with queues between them.
 #![tactic(auto)]
 
+mod closing;
 mod dealing;
 mod desk;
 mod gates;
@@ -15,10 +16,10 @@ mod running;
 mod serve;
 mod sides;
 mod take;
-mod weight;
 mod worker_side;
 mod worker_thread;
 
+pub use closing::{Served, serve_threads};
 pub use dealing::{Dealt, deal};
 pub use desk::Desk;
 pub use gates::Gates;
@@ -28,7 +29,6 @@ pub use lane_thread::{LaneBack, LaneGiven, LaneThread};
 pub use meanwhile::{Meanwhile, Parking};
 pub use parkings::Parkings;
 pub use running::{Rooms, run_all};
-pub use serve::{Served, serve_threads};
 pub use sides::{LaneParts, WorkerParts};
 pub use worker_side::WorkerSide;
 pub use worker_thread::{WorkerBack, WorkerGiven, WorkerThread};

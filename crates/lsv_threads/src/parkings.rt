@@ -27,13 +27,13 @@ pub struct Parkings<B> {
     pub weights: Vec<AtomicU64>,
     /// One for each worker, in their order.
     pub workers: Vec<Parker>,
-    /// The bells of the workers' ports, in the workers' order.
+    /// The bells of the workers' ports, in the workers' order. The last may be missing.
     pub bells: Vec<B>,
 }
 
 impl<B: Bell> Parkings<B> {
-    /// Parkings for this many lanes, and for the workers whose ports have these bells.
-    pub fn new(alloc: Global, lanes: usize, bells: Vec<B>) -> Result<Self, NoMem>
+    /// Parkings for this many lanes and workers. A worker may have no bell: it isn't woken out of its port's turn then.
+    pub fn new(alloc: Global, lanes: usize, workers: usize, bells: Vec<B>) -> Result<Self, NoMem>
     where
         B: Drop,
     {
@@ -43,14 +43,14 @@ impl<B: Bell> Parkings<B> {
             lane_parkers.push(Parker::new())?;
             weights.push(AtomicU64::new(0))?;
         }
-        let mut workers = Vec::new(alloc);
-        for _ in 0..bells.len() {
-            workers.push(Parker::new())?;
+        let mut worker_parkers = Vec::new(alloc);
+        for _ in 0..workers {
+            worker_parkers.push(Parker::new())?;
         }
         Ok(Parkings {
             lanes: lane_parkers,
             weights,
-            workers,
+            workers: worker_parkers,
             bells,
         })
     }
@@ -93,8 +93,8 @@ impl<B: Bell> Parkings<B> {
         }
     }
 
-    /// Counts these bytes as put to a lane. False, and not counted, if the lane's jobs would then hold more than 64 MiB; but
-    /// a lane without jobs takes any. Two workers that ask at the same time may both be let through.
+    /// Counts these bytes as put to a lane. False, and not counted, if the lane's jobs would then hold more than 64 MiB.
+    /// A lane without jobs takes any. Two workers that ask at the same time may both be let through.
     pub fn load(&self, lane: usize, bytes: u64) -> bool {
         match self.weights.as_slice().get(lane) {
             None => true,

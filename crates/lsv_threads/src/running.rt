@@ -3,7 +3,7 @@
 ghost use Rattle.std.specs.Prelude.{◌≡◌, ◌≤◌, [], All, vec_len, vec_capacity};
 ghost use Rattle.std.specs.List.{AllZip};
 ghost use Rattle.lsv_threads.specs.Running.{HasRoom, MayRun};
-ghost use Rattle.lsv_threads.specs.Threads.{Ends, IsDone, IsLaneDone, IsLaneStarted, IsStarted, LaneEnds};
+ghost use Rattle.lsv_threads.specs.Threads.{Ends, IsDone, IsLane, IsLaneDone, IsLaneStarted, IsStarted, IsWorker, LaneEnds, LaneWent, Went};
 ghost use Rattle.lsv_threads.specs.Words.{lane_words_of, words_of};
 
 use crate::idle::{Idle, finish_idle};
@@ -31,6 +31,40 @@ pub struct Rooms<T: Endpoint, L: Lane> {
     pub lane_sides: Vec<LaneSide<L>>,
 }
 
+/// Turns the lanes without a thread and the workers without one, until they are over.
+fn turn_all<T: Endpoint + Drop, L: Lane, R: Threads + Wait, B: Bell>(
+    rt: &R,
+    alloc: Global,
+    inboxes: &[Queue<Job>],
+    outs: &[Queue<Reply>],
+    parkings: &Parkings<B>,
+    count: u32,
+    workers: Vec<WorkerThread<T>>,
+    lanes: &mut Vec<LaneThread<L>>,
+) -> Vec<WorkerThread<T>>
+    requires workers { All (IsStarted ⟦<T as Endpoint>⟧ inboxes.now outs.now) workers.items }
+    requires lanes { All (IsLaneStarted ⟦<L as Lane>⟧ inboxes.now outs.now count) lanes.old.items }
+    ensures workers { All (IsStarted ⟦<T as Endpoint>⟧ inboxes.now outs.now) result.items }
+    ensures went { AllZip (Went ⟦<T as Endpoint>⟧ inboxes.now outs.now) workers.items result.items }
+    ensures lanes { All (IsLaneStarted ⟦<L as Lane>⟧ inboxes.now outs.now count) lanes.new.items }
+    ensures lanes_went { AllZip (LaneWent ⟦<L as Lane>⟧ inboxes.now outs.now count) lanes.old.items lanes.new.items }
+{
+    let dozes = are_many(lanes.as_slice());
+    let mut idle = Idle {
+        alloc,
+        inboxes,
+        outs,
+        parkings,
+        threads: workers,
+        dozes,
+    };
+    run_lanes(rt, alloc, inboxes, outs, parkings, count, lanes, &mut idle);
+    let Idle { threads, .. } = idle;
+    let mut threads = threads;
+    finish_idle(rt, alloc, inboxes, outs, parkings, &mut threads);
+    threads
+}
+
 /// Turns what has no thread until it is over, and waits for the threads.
 fn finish<T: Endpoint + Drop, L: Lane + Drop, R: Threads + Wait, B: Bell>(
     rt: &R,
@@ -41,54 +75,77 @@ fn finish<T: Endpoint + Drop, L: Lane + Drop, R: Threads + Wait, B: Bell>(
     count: u32,
     workers: Vec<WorkerThread<T>>,
     lanes: Vec<LaneThread<L>>,
-    worker_sides: Vec<WorkerSide<T>>,
-    lane_sides: Vec<LaneSide<L>>,
-) -> (Vec<WorkerSide<T>>, Vec<LaneSide<L>>)
+    worker_sides: &mut Vec<WorkerSide<T>>,
+    lane_sides: &mut Vec<LaneSide<L>>,
+)
     requires workers { All (IsStarted ⟦<T as Endpoint>⟧ inboxes.now outs.now) workers.items }
     requires lanes { All (IsLaneStarted ⟦<L as Lane>⟧ inboxes.now outs.now count) lanes.items }
-    requires room { (worker_sides.items ≡ []) × (vec_len workers ≤ vec_capacity worker_sides) }
-    requires lane_room { (lane_sides.items ≡ []) × (vec_len lanes ≤ vec_capacity lane_sides) }
-    ensures workers { AllZip (Ends ⟦<T as Endpoint>⟧ inboxes.now outs.now) workers.items result.0.items }
-    ensures lanes { AllZip (LaneEnds ⟦<L as Lane>⟧ inboxes.now outs.now count) lanes.items result.1.items }
+    requires room { (worker_sides.old.items ≡ []) × (vec_len workers ≤ vec_capacity worker_sides.old) }
+    requires lane_room { (lane_sides.old.items ≡ []) × (vec_len lanes ≤ vec_capacity lane_sides.old) }
+    ensures workers { AllZip (Ends ⟦<T as Endpoint>⟧ inboxes.now outs.now) workers.items worker_sides.new.items }
+    ensures lanes { AllZip (LaneEnds ⟦<L as Lane>⟧ inboxes.now outs.now count) lanes.items lane_sides.new.items }
 {
     let mut lanes = lanes;
-    let dozes = are_many(lanes.as_slice());
-    let mut idle = Idle {
-        alloc,
-        inboxes,
-        outs,
-        parkings,
-        threads: workers,
-        dozes,
-    };
-    run_lanes(
-        rt, alloc, inboxes, outs, parkings, count, &mut lanes, &mut idle,
+    let threads = turn_all(
+        rt, alloc, inboxes, outs, parkings, count, workers, &mut lanes,
     );
-    let Idle { threads, .. } = idle;
-    let mut threads = threads;
-    finish_idle(rt, alloc, inboxes, outs, parkings, &mut threads);
-    let mut worker_sides = worker_sides;
-    finish_workers(
+    finish_workers(rt, alloc, inboxes, outs, parkings, threads, worker_sides);
+    finish_lanes(rt, alloc, inboxes, outs, parkings, count, lanes, lane_sides);
+}
+
+/// Starts all threads.
+fn start_all<
+    's,
+    E,
+    T: Endpoint + Send + Drop + 's,
+    L: Lane + Send + Drop + 's,
+    R: Threads + Wait + Sync,
+    B: Bell + Sync,
+>(
+    scope: &Scope<'s, E>,
+    rt: &'s R,
+    alloc: Global,
+    inboxes: &'s [Queue<Job>],
+    outs: &'s [Queue<Reply>],
+    parkings: &'s Parkings<B>,
+    refused: &'s [AtomicU64; 2],
+    count: u32,
+    workers: Vec<WorkerSide<T>>,
+    lanes: Vec<LaneSide<L>>,
+    worker_threads: &mut Vec<WorkerThread<T>>,
+    lane_threads: &mut Vec<LaneThread<L>>,
+)
+    requires ready { MayRun ⟦<T as Endpoint>⟧ ⟦<L as Lane>⟧ inboxes.now outs.now workers.items lanes.items }
+    requires room { (worker_threads.old.items ≡ []) × (vec_len workers ≤ vec_capacity worker_threads.old) }
+    requires lane_room { (lane_threads.old.items ≡ []) × (vec_len lanes ≤ vec_capacity lane_threads.old) }
+    ensures workers { AllZip (IsWorker ⟦<T as Endpoint>⟧ inboxes.now) workers.items worker_threads.new.items }
+    ensures lanes { AllZip (IsLane ⟦<L as Lane>⟧ outs.now count) lanes.items lane_threads.new.items }
+    ensures count { vec_len worker_threads.new ≡ vec_len workers }
+    ensures lane_count { vec_len lane_threads.new ≡ vec_len lanes }
+{
+    start_workers(
+        scope,
         rt,
         alloc,
         inboxes,
         outs,
         parkings,
-        threads,
-        &mut worker_sides,
+        &refused[0],
+        workers,
+        worker_threads,
     );
-    let mut lane_sides = lane_sides;
-    finish_lanes(
+    start_lanes(
+        scope,
         rt,
         alloc,
         inboxes,
         outs,
         parkings,
+        &refused[1],
         count,
         lanes,
-        &mut lane_sides,
+        lane_threads,
     );
-    (worker_sides, lane_sides)
 }
 
 /// Starts all threads, and waits for them.
@@ -118,35 +175,24 @@ fn run_within<
     ensures lanes { AllZip (IsLaneDone ⟦<L as Lane>⟧ count) lanes.items result.1.items }
 {
     let Rooms {
-        workers: worker_room,
-        worker_sides,
-        lanes: lane_room,
-        lane_sides,
+        workers: mut started,
+        worker_sides: mut ended,
+        lanes: mut lanes_started,
+        lane_sides: mut lanes_ended,
     } = rooms;
-    let mut worker_threads = worker_room;
-    start_workers(
+    start_all(
         scope,
         rt,
         alloc,
         inboxes,
         outs,
         parkings,
-        &refused[0],
-        workers,
-        &mut worker_threads,
-    );
-    let mut lane_threads = lane_room;
-    start_lanes(
-        scope,
-        rt,
-        alloc,
-        inboxes,
-        outs,
-        parkings,
-        &refused[1],
+        refused,
         count,
+        workers,
         lanes,
-        &mut lane_threads,
+        &mut started,
+        &mut lanes_started,
     );
     finish(
         rt,
@@ -155,11 +201,12 @@ fn run_within<
         outs,
         parkings,
         count,
-        worker_threads,
-        lane_threads,
-        worker_sides,
-        lane_sides,
-    )
+        started,
+        lanes_started,
+        &mut ended,
+        &mut lanes_ended,
+    );
+    (ended, lanes_ended)
 }
 
 /// Runs each worker and each lane, until all are over: each in a thread of its own, but lane 0 in the caller's, as is

@@ -1,9 +1,9 @@
-//! A server's threads from the first start to the end.
+//! A server's threads from the first start to the last join.
 
-ghost use Rattle.std.specs.Prelude.{◌≡◌, ◌≤◌, ℕ, false, length, IfOk};
+ghost use Rattle.std.specs.Prelude.{◌≡◌, ◌≤◌, ℕ, length, IfOk};
 ghost use Rattle.lsv_threads.specs.Prepared.{IsPrepared};
 ghost use Rattle.lsv_threads.specs.Run.{AreFresh, AreFreshLanes};
-ghost use Rattle.lsv_threads.specs.Served.{AreServed};
+ghost use Rattle.lsv_threads.specs.Served.{AreTurned};
 
 use crate::dealing::{Dealt, deal};
 use crate::running::{Rooms, run_all};
@@ -25,20 +25,9 @@ const INBOX: usize = 256;
 /// How many replies an outbox holds.
 const OUTBOX: usize = 1024;
 
-/// What threads left of a server.
-#[derive(Drop)]
-pub struct Served<T, L> {
-    /// The endpoints, in the workers' order.
-    pub endpoints: Vec<T>,
-    /// The lanes, in their order.
-    pub lanes: Vec<L>,
-    /// Memory ran out, before the threads started or for a lane: jobs or replies may be lost.
-    pub lost: bool,
-}
-
 /// All that takes memory, made before the first thread starts.
 #[derive(Drop)]
-struct Prepared<T: Endpoint, L: Lane> {
+pub(crate) struct Prepared<T: Endpoint, L: Lane> {
     inboxes: Dealt<Job>,
     outs: Dealt<Reply>,
     worker_sides: Vec<WorkerSide<T>>,
@@ -49,7 +38,7 @@ struct Prepared<T: Endpoint, L: Lane> {
 }
 
 /// Makes the queues, deals their passes out, and reserves room for the sides.
-fn prepare<T: Endpoint + Drop, L: Lane + Drop>(
+pub(crate) fn prepare<T: Endpoint + Drop, L: Lane + Drop>(
     alloc: Global,
     workers: usize,
     lanes: usize,
@@ -73,7 +62,7 @@ fn prepare<T: Endpoint + Drop, L: Lane + Drop>(
             endpoints: Vec::with_capacity(alloc, workers)?,
             receivers: Vec::with_capacity(alloc, workers)?,
             rows: Vec::with_capacity(alloc, workers)?,
-            stopped: false,
+            stops: Vec::with_capacity(alloc, workers)?,
         },
         lane_parts: LaneParts {
             lanes: Vec::with_capacity(alloc, lanes)?,
@@ -92,18 +81,21 @@ fn count_of<T>(all: &Vec<T>) -> u32
     all.len() as u32
 }
 
-/// Whether one of these is so.
-fn either(a: bool, b: bool) -> bool
-    ensures { result ≡ false → (a ≡ false) × (b ≡ false) }
-{
-    if a {
-        return true;
-    }
-    b
+/// What all threads left.
+#[derive(Drop)]
+pub(crate) struct Ran<T, L> {
+    /// The endpoints, in the workers' order.
+    pub(crate) endpoints: Vec<T>,
+    /// Whether each of them was stopped, since memory ran out for a lane.
+    pub(crate) stops: Vec<bool>,
+    /// The lanes, in their order.
+    pub(crate) lanes: Vec<L>,
+    /// Whether memory ran out for a lane.
+    pub(crate) failed: bool,
 }
 
-/// Runs all threads over what was prepared.
-fn run_prepared<
+/// Runs all threads over what was prepared, and waits for them.
+pub(crate) fn run_prepared<
     T: Endpoint + Send + Drop,
     L: Lane + Send + Drop,
     R: Threads + Wait + Sync,
@@ -115,14 +107,14 @@ fn run_prepared<
     prepared: Prepared<T, L>,
     endpoints: Vec<T>,
     lanes: Vec<L>,
-) -> Served<T, L>
+) -> Ran<T, L>
     requires prepared { IsPrepared (length endpoints.items) (length lanes.items) prepared }
     requires some { (1 ≤ length endpoints.items) × (length endpoints.items ≤ 64) }
     requires some_lanes { (1 ≤ length lanes.items) × (length lanes.items ≤ 8) }
     requires fresh { (starts : ℕ → T.Start) × AreFresh ⟦<T as Endpoint>⟧ endpoints.items (length lanes.items) starts }
     requires fresh_lanes { (begins : ℕ → L.Start) × AreFreshLanes ⟦<L as Lane>⟧ lanes.items begins }
     ensures { (starts : ℕ → T.Start) (begins : ℕ → L.Start) → AreFresh ⟦<T as Endpoint>⟧ endpoints.items (length lanes.items) starts → AreFreshLanes ⟦<L as Lane>⟧ lanes.items begins →
-        AreServed ⟦<T as Endpoint>⟧ ⟦<L as Lane>⟧ starts begins result.endpoints.items result.lanes.items result.lost }
+        AreTurned ⟦<T as Endpoint>⟧ ⟦<L as Lane>⟧ starts begins endpoints.items (length lanes.items) result.endpoints.items result.stops.items result.lanes.items result.failed }
 {
     let Prepared {
         inboxes,
@@ -161,7 +153,7 @@ fn run_prepared<
         endpoints: left,
         receivers: replies,
         rows: job_rows,
-        stopped,
+        stops,
     } = take_workers(ended, worker_parts);
     let LaneParts {
         lanes: lanes_left,
@@ -173,43 +165,10 @@ fn run_prepared<
     settle(rt, inboxes.as_slice(), &mut jobs, job_rows);
     let mut replies = replies;
     settle(rt, outs.as_slice(), &mut replies, reply_rows);
-    let lost = either(stopped, failed);
-    Served {
+    Ran {
         endpoints: left,
+        stops,
         lanes: lanes_left,
-        lost,
+        failed,
     }
-}
-
-/// Serves what comes at these endpoints, 1 to 64, each numbered by its place, by turns of these lanes, 1 to 8: a thread for
-/// each endpoint and for each lane, but lane 0 in the caller's. `bells` end the waits of the endpoints' ports, in their order.
-/// It returns after each endpoint came to its end. If no thread can be made for one, the caller's thread turns it too.
-pub fn serve_threads<
-    T: Endpoint + Send + Drop,
-    L: Lane + Send + Drop,
-    R: Threads + Wait + Sync,
-    B: Bell + Sync + Drop,
->(rt: &R, alloc: Global, endpoints: Vec<T>, lanes: Vec<L>, bells: Vec<B>) -> Served<T, L>
-    requires some { (1 ≤ length endpoints.items) × (length endpoints.items ≤ 64) }
-    requires some_lanes { (1 ≤ length lanes.items) × (length lanes.items ≤ 8) }
-    requires fresh { (starts : ℕ → T.Start) × AreFresh ⟦<T as Endpoint>⟧ endpoints.items (length lanes.items) starts }
-    requires fresh_lanes { (begins : ℕ → L.Start) × AreFreshLanes ⟦<L as Lane>⟧ lanes.items begins }
-    ensures { (starts : ℕ → T.Start) (begins : ℕ → L.Start) → AreFresh ⟦<T as Endpoint>⟧ endpoints.items (length lanes.items) starts → AreFreshLanes ⟦<L as Lane>⟧ lanes.items begins →
-        AreServed ⟦<T as Endpoint>⟧ ⟦<L as Lane>⟧ starts begins result.endpoints.items result.lanes.items result.lost }
-{
-    let Ok(prepared) = prepare(alloc, endpoints.len(), lanes.len()) else {
-        return Served {
-            endpoints,
-            lanes,
-            lost: true,
-        };
-    };
-    let Ok(parkings) = Parkings::new(alloc, lanes.len(), bells) else {
-        return Served {
-            endpoints,
-            lanes,
-            lost: true,
-        };
-    };
-    run_prepared(rt, alloc, &parkings, prepared, endpoints, lanes)
 }

@@ -91,8 +91,8 @@ pub struct WorkerParts<T> {
     pub endpoints: Vec<T>,
     pub receivers: Vec<OutPass<Reply>>,
     pub rows: Vec<Vec<InPass<Job>>>,
-    /// Whether an endpoint was stopped.
-    pub stopped: bool,
+    /// Whether each one's endpoint was stopped.
+    pub stops: Vec<bool>,
 }
 
 /// Takes the sides of workers apart. The lists of `room` are empty.
@@ -100,39 +100,40 @@ pub fn take_workers<T: Drop>(sides: Vec<WorkerSide<T>>, room: WorkerParts<T>) ->
     requires endpoints { (room.endpoints.items ≡ []) × (vec_len sides ≤ vec_capacity room.endpoints) }
     requires receivers { (room.receivers.items ≡ []) × (vec_len sides ≤ vec_capacity room.receivers) }
     requires rows { (room.rows.items ≡ []) × (vec_len sides ≤ vec_capacity room.rows) }
+    requires stops { (room.stops.items ≡ []) × (vec_len sides ≤ vec_capacity room.stops) }
     ensures endpoints { result.endpoints.items ≡ map (λ s. s.desk.endpoint) sides.items }
     ensures receivers { result.receivers.items ≡ map (λ s. s.desk.taken) sides.items }
     ensures rows { result.rows.items ≡ map (λ s. s.put) sides.items }
-    ensures stopped { result.stopped ≡ false → All (λ s. s.desk.stopped ≡ false) sides.items }
+    ensures stops { result.stops.items ≡ map (λ s. s.desk.stopped) sides.items }
 {
     let WorkerParts {
         endpoints,
         receivers,
         rows,
-        ..
+        stops,
     } = room;
     let mut endpoints = endpoints;
     let mut receivers = receivers;
     let mut rows = rows;
-    let mut stopped = false;
+    let mut stops = stops;
     for side in sides {
         let WorkerSide { desk, put, .. } = side;
         let Desk {
             endpoint,
             taken,
-            stopped: its,
+            stopped,
             ..
         } = desk;
         endpoints.push_reserved(endpoint);
         receivers.push_reserved(taken);
         rows.push_reserved(put);
-        stopped = stopped || its;
+        stops.push_reserved(stopped);
     }
     WorkerParts {
         endpoints,
         receivers,
         rows,
-        stopped,
+        stops,
     }
 }
 

@@ -3,10 +3,11 @@
 ghost use Rattle.std.specs.Prelude.{◌≡◌, ◌≤◌, ◌<◌, ◌++◌, List, length, Some, IfOk, OnErr};
 ghost use Rattle.lsv_queue.specs.Passes.{items_of};
 ghost use Rattle.lsv_session.specs.declared.job.Job.{Job};
+ghost use Rattle.lsv_threads.specs.LaneSides.{gap_of};
 
-use crate::weight::job_size;
 use lsv_queue::{Gap, NoMem, OutPass, Queue};
 use lsv_session::Job;
+use lsv_worker::job_size;
 use std::alloc::Global;
 use std::sync::Wait;
 
@@ -25,7 +26,7 @@ pub(crate) fn take_jobs<R: Wait>(
     ensures joined { pass.new.taken.joined ≡ pass.old.taken.joined }
     ensures jobs { IfOk result (λ t. items_of pass.new.taken.got ≡ items_of pass.old.taken.got ++ t.0.items) }
     ensures most { IfOk result (λ t. length t.0.items ≤ 256) }
-    ensures gap { IfOk result (λ t. length t.0.items < 256 → t.1 ≡ Some (length (items_of pass.new.taken.got))) }
+    ensures gap { IfOk result (λ t. length t.0.items < 256 → t.1 ≡ Some (gap_of pass.new)) }
     ensures lost { OnErr result ((lost : List Job) × (items_of pass.new.taken.got ≡ items_of pass.old.taken.got ++ lost)) }
 {
     let mut jobs = Vec::new(alloc);

@@ -157,8 +157,10 @@ impl<T: Endpoint> WorkerThread<T> {
                     return;
                 }
                 let number = back.side.desk.number as usize;
+                // A port's turn that was rung answers at once, so the caller's thread doesn't wait in it.
+                parkings.wake_worker(number);
                 back.side
-                    .step(rt, alloc, inboxes, &outs[number], parkings, false);
+                    .step(rt, alloc, inboxes, &outs[number], parkings, true);
                 return;
             }
         }

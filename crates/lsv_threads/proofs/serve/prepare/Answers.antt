@@ -17,7 +17,8 @@ returns g c = record {
   endpoints = (c.in_ok-with_capacity-7.ensures.items, c.in_ok-with_capacity-7.ensures.capacity);
   receivers = (c.in_ok-with_capacity-8.ensures.items, c.in_ok-with_capacity-8.ensures.capacity);
   rows = (c.in_ok-with_capacity-9.ensures.items, c.in_ok-with_capacity-9.ensures.capacity);
-  lanes_left = (c.in_ok-with_capacity-10.ensures.items, c.in_ok-with_capacity-10.ensures.capacity);
-  lane_receivers = (c.in_ok-with_capacity-11.ensures.items, c.in_ok-with_capacity-11.ensures.capacity);
-  lane_rows = (c.in_ok-with_capacity-12.ensures.items, c.in_ok-with_capacity-12.ensures.capacity);
+  stops = (c.in_ok-with_capacity-10.ensures.items, c.in_ok-with_capacity-10.ensures.capacity);
+  lanes_left = (c.in_ok-with_capacity-11.ensures.items, c.in_ok-with_capacity-11.ensures.capacity);
+  lane_receivers = (c.in_ok-with_capacity-12.ensures.items, c.in_ok-with_capacity-12.ensures.capacity);
+  lane_rows = (c.in_ok-with_capacity-13.ensures.items, c.in_ok-with_capacity-13.ensures.capacity);
 }

@@ -9,11 +9,11 @@ use Rattle.lsv_session.specs.declared.job.Job.{Job}
 use Rattle.lsv_session.specs.declared.reply.Reply.{Reply}
 use Rattle.lsv_threads.specs.Run.{HasRun}
 use Rattle.lsv_threads.specs.Running.{MayRun}
-use Rattle.lsv_threads.specs.Served.{AreServed}
+use Rattle.lsv_threads.specs.Served.{AreTurned}
 use Rattle.lsv_threads.specs.Threads.{IsDone, IsLaneDone}
 use Rattle.lsv_threads.proofs.Placing.{may_run}
 use Rattle.lsv_threads.proofs.Preparing.{laid_of}
-use Rattle.lsv_threads.proofs.Serving.{are_served, jobs_ready, jobs_receivers_are, jobs_rows_are, replies_ready, replies_receivers_are, replies_rows_are}
+use Rattle.lsv_threads.proofs.Serving.{are_turned, jobs_ready, jobs_receivers_are, jobs_rows_are, replies_ready, replies_receivers_are, replies_rows_are}
 use Rattle.lsv_threads.proofs.Zipping.{zip_length}
 use Rattle.lsv_threads.proofs.serve.run_prepared.Goals as goal
 
@@ -40,6 +40,11 @@ pub take_workers-left-requires-clause-rows : goal.take_workers-left-requires-cla
 take_workers-left-requires-clause-rows g c =
     let q = c.requires.prepared in
     (q.rows.0, let a = q.rows.1 in let b = zip_length (IsDone g.T.Endpoint) c.make_workers-workers.result.items c.run_all-ended.result.0.items c.run_all-ended.ensures.workers in let d = c.run_all-ended.result.0.ok.0 in let e = c.make_workers-workers.ensures.sides.size in omega arith)
+
+pub take_workers-left-requires-clause-stops : goal.take_workers-left-requires-clause-stops
+take_workers-left-requires-clause-stops g c =
+    let q = c.requires.prepared in
+    (q.stops.0, let a = q.stops.1 in let b = zip_length (IsDone g.T.Endpoint) c.make_workers-workers.result.items c.run_all-ended.result.0.items c.run_all-ended.ensures.workers in let d = c.run_all-ended.result.0.ok.0 in let e = c.make_workers-workers.ensures.sides.size in omega arith)
 
 pub take_lanes-lanes_left-requires-clause-lanes : goal.take_lanes-lanes_left-requires-clause-lanes
 take_lanes-lanes_left-requires-clause-lanes g c =
@@ -141,6 +146,7 @@ returns g c = λ starts begins fresh fresh_lanes.
     (subst (λ (r : List (OutPass Job)). AreSettled r (map (λ v. v.items) c.take_workers-left.result.rows.items)) c.take_lanes-lanes_left.ensures.receivers c.settle.ensures.settled) in
     let replies_settled = subst (λ (r : List (Vec (InPass Reply) Global)). AreSettled (map (λ s. s.desk.taken) c.run_all-ended.result.0.items) (map (λ v. v.items) r)) c.take_lanes-lanes_left.ensures.rows
     (subst (λ (r : List (OutPass Reply)). AreSettled r (map (λ v. v.items) c.take_lanes-lanes_left.result.rows.items)) c.take_workers-left.ensures.receivers c.settle-2.ensures.settled) in
-    subst (λ l. AreServed g.T.Endpoint g.L.Lane starts begins l c.take_lanes-lanes_left.result.lanes.items c.either-lost.result) (sym c.take_workers-left.ensures.endpoints)
-    (subst (λ l. AreServed g.T.Endpoint g.L.Lane starts begins (map (λ s. s.desk.endpoint) c.run_all-ended.result.0.items) l c.either-lost.result) (sym c.take_lanes-lanes_left.ensures.lanes)
-    (are_served g.T.Endpoint g.L.Lane c.args.endpoints.items c.args.lanes.items p.inboxes.queues.items p.outs.queues.items p.inboxes.rows.items p.outs.rows.items p.outs.receivers.items p.inboxes.receivers.items c.make_workers-workers.result.items c.make_lanes-ways.result.items laid c.run_all-ended.result.0.items c.run_all-ended.result.1.items run starts begins fresh fresh_lanes c.either-lost.result (λ e. c.take_workers-left.ensures.stopped (c.either-lost.ensures e).0) (λ e. c.take_lanes-lanes_left.ensures.failed (c.either-lost.ensures e).1) settled replies_settled))
+    subst (λ l. AreTurned g.T.Endpoint g.L.Lane starts begins c.args.endpoints.items (length c.args.lanes.items) l c.take_workers-left.result.stops.items c.take_lanes-lanes_left.result.lanes.items c.take_lanes-lanes_left.result.failed) (sym c.take_workers-left.ensures.endpoints)
+    (subst (λ l. AreTurned g.T.Endpoint g.L.Lane starts begins c.args.endpoints.items (length c.args.lanes.items) (map (λ s. s.desk.endpoint) c.run_all-ended.result.0.items) l c.take_lanes-lanes_left.result.lanes.items c.take_lanes-lanes_left.result.failed) (sym c.take_workers-left.ensures.stops)
+    (subst (λ l. AreTurned g.T.Endpoint g.L.Lane starts begins c.args.endpoints.items (length c.args.lanes.items) (map (λ s. s.desk.endpoint) c.run_all-ended.result.0.items) (map (λ s. s.desk.stopped) c.run_all-ended.result.0.items) l c.take_lanes-lanes_left.result.failed) (sym c.take_lanes-lanes_left.ensures.lanes)
+    (are_turned g.T.Endpoint g.L.Lane c.args.endpoints.items c.args.lanes.items p.inboxes.queues.items p.outs.queues.items p.inboxes.rows.items p.outs.rows.items p.outs.receivers.items p.inboxes.receivers.items c.make_workers-workers.result.items c.make_lanes-ways.result.items laid c.run_all-ended.result.0.items c.run_all-ended.result.1.items run starts begins fresh fresh_lanes settled replies_settled c.take_lanes-lanes_left.result.failed c.take_lanes-lanes_left.ensures.failed)))
