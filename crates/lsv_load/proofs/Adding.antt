@@ -10,8 +10,8 @@ use Rattle.lsv_disk.proofs.Composition.{OnlyNow, reads_trans, unchanged_reads}
 use Rattle.lsv_bundle.specs.declared.body.Body.{Body}
 use Rattle.lsv_gen.specs.Summary.{totals_of, totals_with}
 use Rattle.lsv_gen.specs.declared.totals.Totals.{Totals}
-use Rattle.lsv_iolog.specs.declared.fault.LogFault.{LogFault}
-use Rattle.lsv_iolog.specs.declared.fault.LogFault.TheVariants as logs
+use Rattle.lsv_iolog.specs.declared.fault.ViewFault.{ViewFault}
+use Rattle.lsv_iolog.specs.declared.fault.ViewFault.TheVariants as views
 use Rattle.lsv_iolog.specs.Faults.{IsNextFault}
 use Rattle.lsv_iolog.specs.Reading.{IsBehind, IsFaultBehind, IsSoundBehind, IsWhole, ViewState, committed_laid}
 use Rattle.lsv_iolog.proofs.Scans.{reads_nothing}
@@ -33,7 +33,7 @@ pub same_image : (old new : DiskView) → OnlyReads old new → new.reads ≡ ol
 same_image old new reads = fun_ext (λ f. unchanged_reads old new reads.unchanged f)
 
 -- what holds of the error that it is
-pub err_holds : {T : Type 0} (r : Result T LogFault) (e : LogFault) (P : LogFault → Type 0) → IsErrAnd r (λ x. x ≡ e) → P e → IfErr r P
+pub err_holds : {T : Type 0} (r : Result T ViewFault) (e : ViewFault) (P : ViewFault → Type 0) → IsErrAnd r (λ x. x ≡ e) → P e → IfErr r P
 err_holds (Ok x) e P is holds = absurd is
 err_holds (Err x) e P is holds = subst P (sym is) holds
 
@@ -122,7 +122,7 @@ module _ (tells : Type 0) (start log : ViewState) (old now : DiskView) (before s
   }
 
   -- and there is no log
-  no_log : (part : Part) → IsFitting start.body → IsOpened start.number start.body start.head old.reads → IsFaultBehind (committed_laid log.number log.body now) log.body so_far.0 part → IsUnread old.reads start.number (logs.Damaged part)
+  no_log : (part : Part) → IsFitting start.body → IsOpened start.number start.body start.head old.reads → IsFaultBehind (committed_laid log.number log.body now) log.body so_far.0 part → IsUnread old.reads start.number (views.Damaged part)
   no_log part fits opened fault = record {
     none = λ stored holds.
         stored_undamaged (Unit {0}) any_way start.number old.reads (play any_way so_far.0) stored part holds
@@ -131,17 +131,12 @@ module _ (tells : Type 0) (start log : ViewState) (old now : DiskView) (before s
   }
 
   -- the log gives no further record for this fault
-  pub next_fails : (e : LogFault) → IsNextFault e → ((part : Part) → e ≡ logs.Damaged part → (rs : List Record) → IsBehind log rs now → IsFaultBehind (committed_laid log.number log.body now) log.body rs part)
+  pub next_fails : (e : ViewFault) → IsNextFault e → ((part : Part) → e ≡ views.Damaged part → (rs : List Record) → IsBehind log rs now → IsFaultBehind (committed_laid log.number log.body now) log.body rs part)
       → IsFitting start.body → IsOpened start.number start.body start.head old.reads → IsUnread old.reads start.number e
-  next_fails logs.Absent is_fault fault fits opened = absurd is_fault
-  next_fails (logs.Damaged part) is_fault fault fits opened = no_log part fits opened (fault part refl so_far.0 so_far.1)
-  next_fails logs.Disk is_fault fault fits opened = tt
-  next_fails logs.NoMem is_fault fault fits opened = tt
-  next_fails logs.Complete is_fault fault fits opened = absurd is_fault
-  next_fails (logs.NoPoint point) is_fault fault fits opened = absurd is_fault
-  next_fails logs.Broken is_fault fault fits opened = absurd is_fault
-  next_fails (logs.Full part) is_fault fault fits opened = absurd is_fault
-  next_fails (logs.TooLong point) is_fault fault fits opened = absurd is_fault
+  next_fails views.Absent is_fault fault fits opened = absurd is_fault
+  next_fails (views.Damaged part) is_fault fault fits opened = no_log part fits opened (fault part refl so_far.0 so_far.1)
+  next_fails views.Disk is_fault fault fits opened = tt
+  next_fails views.NoMem is_fault fault fits opened = tt
 
   -- the log has no further record
   pub next_ends : ((rs : List Record) → IsBehind log rs now → IsWhole log rs now) → AddsAll start.number start.body old.reads before sums

@@ -8,10 +8,9 @@ use Rattle.lsv_bundle.specs.Committed.{HasEntry}
 use Rattle.lsv_bundle.specs.declared.body.Body.{Body}
 use Rattle.lsv_info.specs.Reading.{head_of}
 use Rattle.lsv_info.specs.declared.times.Head.{Head}
-use Rattle.lsv_iolog.specs.declared.fault.LogFault.{LogFault}
-use Rattle.lsv_iolog.specs.declared.fault.LogFault.TheVariants as logs
+use Rattle.lsv_iolog.specs.declared.fault.ViewFault.{ViewFault}
+use Rattle.lsv_iolog.specs.declared.fault.ViewFault.TheVariants as views
 use Rattle.lsv_iolog.specs.Damage.{IsViewDamage}
-use Rattle.lsv_iolog.specs.Faults.{IsOpenFault}
 use Rattle.lsv_iolog.specs.Reading.{IsBehind, ViewState, committed_text}
 use Rattle.lsv_iolog.specs.Recovered.{Replays, owner_of}
 use Rattle.lsv_iolog.proofs.Replaying.{one_replay}
@@ -34,16 +33,11 @@ none_some : (log : Stored) → None ≡ Some log → ⊥
 none_some log e = cc
 
 -- what is so of a log that isn't opened for this fault
-pub open_fails : (n : ℕ) (image : Image) (e : LogFault) → IsOpenFault e → (e ≡ logs.Absent → Replays image n None) → ((part : Part) → e ≡ logs.Damaged part → IsViewDamage n part image) → IsUnread image n e
-open_fails n image logs.Absent is absent damaged = record { none = λ log holds. none_some log (one_replay image n None (Some log) (absent refl) holds); fault = inl (refl, absent refl) }
-open_fails n image (logs.Damaged part) is absent damaged = record { none = λ log holds. no_view_damage n image log holds part (damaged part refl); fault = inr (inl (damaged part refl)) }
-open_fails n image logs.Disk is absent damaged = tt
-open_fails n image logs.NoMem is absent damaged = tt
-open_fails n image logs.Complete is absent damaged = absurd is
-open_fails n image (logs.NoPoint point) is absent damaged = absurd is
-open_fails n image logs.Broken is absent damaged = absurd is
-open_fails n image (logs.Full part) is absent damaged = absurd is
-open_fails n image (logs.TooLong point) is absent damaged = absurd is
+pub open_fails : (n : ℕ) (image : Image) (e : ViewFault) → (e ≡ views.Absent → Replays image n None) → ((part : Part) → e ≡ views.Damaged part → IsViewDamage n part image) → IsUnread image n e
+open_fails n image views.Absent absent damaged = record { none = λ log holds. none_some log (one_replay image n None (Some log) (absent refl) holds); fault = inl (refl, absent refl) }
+open_fails n image (views.Damaged part) absent damaged = record { none = λ log holds. no_view_damage n image log holds part (damaged part refl); fault = inr (inl (damaged part refl)) }
+open_fails n image views.Disk absent damaged = tt
+open_fails n image views.NoMem absent damaged = tt
 
 -- an entry that a log has doesn't misfit
 misfit_not : (body : Body) (part : Part) → IsMisfit body part → IsFitting body → ⊥
@@ -52,17 +46,12 @@ misfit_not body part (inl (is, inr (other, some))) fits = let none = fits.none o
 misfit_not body part (inr (is, right, more)) fits = let small = fits.small in omega (arith, more, small)
 
 -- and of one that is opened, whose last entry isn't one that a log has
-pub misfit_unread : (n : ℕ) (body : Body) (head : Head) (image : Image) (e : LogFault) → IsOpened n body head image → ((log : Stored) → Replays image n (Some log) → IsFitting body) → IsMisfitFault body e → IsUnread image n e
-misfit_unread n body head image logs.Absent opened fits is = absurd is
-misfit_unread n body head image (logs.Damaged part) opened fits is = record { none = λ log holds. misfit_not body part is (fits log holds); fault = inr (inr (record { body = body; head = head; opened = opened; fault = inl is })) }
-misfit_unread n body head image logs.Disk opened fits is = absurd is
-misfit_unread n body head image logs.NoMem opened fits is = absurd is
-misfit_unread n body head image logs.Complete opened fits is = absurd is
-misfit_unread n body head image (logs.NoPoint point) opened fits is = absurd is
-misfit_unread n body head image logs.Broken opened fits is = absurd is
-misfit_unread n body head image (logs.Full part) opened fits is = absurd is
-misfit_unread n body head image (logs.TooLong point) opened fits is = absurd is
+pub misfit_unread : (n : ℕ) (body : Body) (head : Head) (image : Image) (e : ViewFault) → IsOpened n body head image → ((log : Stored) → Replays image n (Some log) → IsFitting body) → IsMisfitFault body e → IsUnread image n e
+misfit_unread n body head image views.Absent opened fits is = absurd is
+misfit_unread n body head image (views.Damaged part) opened fits is = record { none = λ log holds. misfit_not body part is (fits log holds); fault = inr (inr (record { body = body; head = head; opened = opened; fault = inl is })) }
+misfit_unread n body head image views.Disk opened fits is = absurd is
+misfit_unread n body head image views.NoMem opened fits is = absurd is
 
 -- it is the same log on a disk that was only read
-pub unread_before : (n k : ℕ) (old new : DiskView) (e : LogFault) → k ≡ n → OnlyReads old new → IsUnread new.reads k e → IsUnread old.reads n e
+pub unread_before : (n k : ℕ) (old new : DiskView) (e : ViewFault) → k ≡ n → OnlyReads old new → IsUnread new.reads k e → IsUnread old.reads n e
 unread_before n k old new e number reads is = subst (λ (m : ℕ). IsUnread old.reads m e) number (subst (λ (image : Image). IsUnread image k e) (same_image old new reads) is)

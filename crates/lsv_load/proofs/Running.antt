@@ -10,13 +10,13 @@ use Rattle.lsv_iolog.proofs.Scans.{reads_nothing}
 use Rattle.lsv_keeper.specs.Opening.{IsStoreFault, KeepsEntry}
 use Rattle.lsv_keeper.specs.declared.fault.StoreFault.{StoreFault}
 use Rattle.lsv_keeper.specs.declared.fault.StoreFault.TheVariants as faults
-use Rattle.lsv_lane.specs.Store.{IsFresh, KeepsStore, OwnerFailed}
+use Rattle.lsv_lane.specs.Store.{IsFresh, KeepsStore, OwnerFailed, end_of_fault}
+use Rattle.lsv_lane.proofs.Conforming.{keeps_less}
 use Rattle.lsv_machine.specs.Machine.{Settings}
-use Rattle.lsv_machine.specs.Recovery.{Outside}
 use Rattle.lsv_reactor.specs.Served.{KeepPorts}
 use Rattle.lsv_reactor.specs.declared.rounds.PortsEnd.TheVariants.{Stopped}
 use Rattle.lsv_seq.specs.Drawn.{entry_at, judged}
-use Rattle.lsv_service.specs.Runs.{HasTurns, IsUp, unopened}
+use Rattle.lsv_service.specs.Runs.{HasTurns, IsUp}
 use Rattle.lsv_service.specs.declared.run.End.TheVariants as ends
 use Rattle.lsv_turn.specs.Turns.{LaneTurn, TapeTurn, jobs_in, replies_in}
 use Rattle.lsv_links.proofs.PrefixLemmas.{served_prefixes}
@@ -26,20 +26,20 @@ use Rattle.lsv_load.specs.Faults.{HasReplayCause}
 use Rattle.lsv_load.specs.Numbers.{numbers_told}
 use Rattle.lsv_port.specs.Memory.Value.{PortValue, TellsScript, port_state}
 use Rattle.lsv_load.specs.Load.{load_script}
-use Rattle.lsv_load.specs.Runs.{EndsLoad, IsNew, IsSumOf, LeavesLoad, PutsOne, RunsLoad, ServesLoad, ServesOne, ended_by, view_of}
+use Rattle.lsv_load.specs.Runs.{EndsLoad, IsNew, IsSumOf, LeavesLoad, PutsOne, RunsLoad, ServesLoad, ServesOne, view_of}
 use Rattle.lsv_load.specs.declared.run.LoadEnd.{LoadEnd}
 use Rattle.lsv_load.specs.declared.run.LoadEnd.TheVariants.{NoMem, Served, Store}
 
 -- a load whose store isn't opened
 pub not_opened : (tells : Type 0) (count : ℕ) (found served left : DiskView) (fault : StoreFault) → (tells → IsStoreFault 0 1 found.reads fault) → ((o : Owner) → fault ≡ faults.Device o → OwnerFailed o found served)
-    → EndsLoad tells count [] found served left (unopened fault) (ended_by fault)
+    → EndsLoad tells count [] found served left (end_of_fault ends.Store ends.NoMem fault) (end_of_fault Store NoMem fault)
 not_opened tells count found served left faults.NoMem is failed = inl refl
 not_opened tells count found served left (faults.Device o) is failed = inl (record { is = refl; cause = record { memory = λ none. let no_ : ⊥ = cc in no_; is = is; failed = failed } })
 not_opened tells count found served left (faults.Damaged file) is failed = inl (record { is = refl; cause = record { memory = λ none. let no_ : ⊥ = cc in no_; is = is; failed = failed } })
 not_opened tells count found served left (faults.LanesDiffer kept asked) is failed = inl (record { is = refl; cause = record { memory = λ none. let no_ : ⊥ = cc in no_; is = is; failed = failed } })
 
 -- a load whose logs aren't replayed
-pub not_replayed : (tells : Type 0) (numbers : List ℕ) (served left : DiskView) (fault : StoreFault) → HasReplayCause tells numbers served left fault → IsSumOf tells numbers served left (ended_by fault)
+pub not_replayed : (tells : Type 0) (numbers : List ℕ) (served left : DiskView) (fault : StoreFault) → HasReplayCause tells numbers served left fault → IsSumOf tells numbers served left (end_of_fault Store NoMem fault)
 not_replayed tells numbers served left faults.NoMem cause = tt
 not_replayed tells numbers served left (faults.Device o) cause = cause
 not_replayed tells numbers served left (faults.Damaged file) cause = cause
@@ -85,10 +85,6 @@ pub first_there : {A : Type 0} (xs : List A) (d : A) → length xs ≡ 1 → sli
 first_there [] d e = absurd (let no_ : ⊥ = omega (arith, e) in no_)
 first_there (x ∷ xs) d e = refl
 
--- what holds where the store was opened, holds for less
-pub keeps_less : (up less : Type 0) (set : Settings) (texts : List (List ℕ)) (o : Outside) (turns : List LaneTurn) → (less → up) → KeepsStore up set texts o turns → KeepsStore less set texts o turns
-keeps_less up less set texts o turns f k = record { story = k.story; are = k.are; conforms = λ x. k.conforms (f x); recovers = k.recovers; spared = k.spared }
-
 -- what follows of an answer, where there is one
 pub ok_all : {A E : Type 0} (r : Result A E) (P Q : A → Type 0) → IfOk r P → ((a : A) → P a → Q a) → IfOk r Q
 ok_all (Ok a) P Q is f = f a is
@@ -107,37 +103,37 @@ at_err {A} {E} r x P e is = let h : OnErr {T = A} (Err x) P = subst (λ (y : Res
 
 -- ---- A store that isn't opened
 
-no_turns : (fault : StoreFault) → HasTurns (unopened fault) []
+no_turns : (fault : StoreFault) → HasTurns (end_of_fault ends.Store ends.NoMem fault) []
 no_turns faults.NoMem = tt
 no_turns (faults.Device o) = refl
 no_turns (faults.Damaged file) = refl
 no_turns (faults.LanesDiffer kept asked) = refl
 
-not_up : (fault : StoreFault) → IsUp (unopened fault) [] → ⊥
+not_up : (fault : StoreFault) → IsUp (end_of_fault ends.Store ends.NoMem fault) [] → ⊥
 not_up faults.NoMem up = up refl
 not_up (faults.Device o) up = up
 not_up (faults.Damaged file) up = up
 not_up (faults.LanesDiffer kept asked) up = up
 
 -- a load whose store isn't opened runs no turn
-pub runs_unopened : {D : Type 0} (tells taping : Type 0) (view : D → DiskView) (set : Settings) (texts : List (List ℕ)) (count : ℕ) (found left : D) (tape tape' : List TapeTurn) (fault : StoreFault) (end : LoadEnd) → end ≡ ended_by fault → tape' ≡ tape
+pub runs_unopened : {D : Type 0} (tells taping : Type 0) (view : D → DiskView) (set : Settings) (texts : List (List ℕ)) (count : ℕ) (found left : D) (tape tape' : List TapeTurn) (fault : StoreFault) (end : LoadEnd) → end ≡ end_of_fault Store NoMem fault → tape' ≡ tape
     → (tells → KeepsStore ⊥ set texts (record { found = view found; left = view left }) []) → (tells → OnlyNow (view left))
-    → (tells → IsStoreFault 0 1 (view found).reads fault) → ((o : Owner) → fault ≡ faults.Device o → OwnerFailed o (view found) (view left)) → (tells → entry_at 0 (view found).reads ≢ None → KeepsEntry 0 (view found) (view left)) → RunsLoad tells taping view set texts count found left tape tape' end
-runs_unopened tells taping view set texts count found left tape tape' fault end ends same keeps now is failed entry = record {
+    → (tells → IsStoreFault 0 1 (view found).reads fault) → ((o : Owner) → fault ≡ faults.Device o → OwnerFailed o (view found) (view left)) → (tells → entry_at set.lane (view found).reads ≢ None → KeepsEntry set.lane (view found) (view left)) → RunsLoad tells taping view set texts count found left tape tape' end
+runs_unopened tells taping view set texts count found left tape tape' fault end ended same keeps now is failed entry = record {
   turns = [];
   served = left;
-  up = unopened fault;
+  up = end_of_fault ends.Store ends.NoMem fault;
+  sized = tt;
   store = record {
     some = no_turns fault;
-    sized = tt;
     timed = tt;
     answered = λ some. absurd (some refl);
     entry = λ other by told some. entry told some;
     taped = λ told. same ∙ sym (append-nil tape);
-    keeps = λ told. keeps_less ⊥ (IsUp (unopened fault) []) set texts (record { found = view found; left = view left }) [] (not_up fault) (keeps told);
+    keeps = λ told. keeps_less ⊥ (IsUp (end_of_fault ends.Store ends.NoMem fault) []) set texts (record { found = view found; left = view left }) [] (not_up fault) (keeps told);
   };
   read = λ told. reads_nothing (view left) (now told);
-  ends = subst (EndsLoad tells count [] (view found) (view left) (view left) (unopened fault)) (sym ends) (not_opened tells count (view found) (view left) (view left) fault is failed);
+  ends = subst (EndsLoad tells count [] (view found) (view left) (view left) (end_of_fault ends.Store ends.NoMem fault)) (sym ended) (not_opened tells count (view found) (view left) (view left) fault is failed);
 }
 
 -- a disk that was only read is one with which the next run may begin, if it was before

@@ -9,9 +9,8 @@ use Rattle.lsv_disk.specs.View.{DiskView, Image}
 use Rattle.lsv_disk.proofs.Composition.{OnlyNow, reads_trans}
 use Rattle.lsv_gen.specs.Summary.{totals_of}
 use Rattle.lsv_gen.specs.declared.totals.Totals.{Totals}
-use Rattle.lsv_iolog.specs.declared.fault.LogFault.{LogFault}
-use Rattle.lsv_iolog.specs.declared.fault.LogFault.TheVariants as logs
-use Rattle.lsv_iolog.specs.Faults.{IsOpenFault}
+use Rattle.lsv_iolog.specs.declared.fault.ViewFault.{ViewFault}
+use Rattle.lsv_iolog.specs.declared.fault.ViewFault.TheVariants as views
 use Rattle.lsv_iolog.specs.Recovered.{IsOfLog, Replays}
 use Rattle.lsv_iolog.proofs.Scans.{reads_nothing}
 use Rattle.lsv_record.specs.Points.{Stored}
@@ -47,22 +46,17 @@ summing_goes_on tells numbers n old now later sums more is reads disk added = re
 }
 
 -- what holds where there is no error
-pub ok_holds : {T : Type 0} (r : Result T LogFault) (P : Type 0) → ((e : LogFault) → r ≡ Err e → ⊥) → OnOk r P → P
+pub ok_holds : {T : Type 0} (r : Result T ViewFault) (P : Type 0) → ((e : ViewFault) → r ≡ Err e → ⊥) → OnOk r P → P
 ok_holds (Ok x) P none is = is
 ok_holds (Err e) P none is = absurd (none e refl)
 
 -- why a log of these isn't replayed
-pub replay_fails : (tells : Type 0) (numbers : List ℕ) (n : ℕ) (old now later : DiskView) (e : LogFault) → Contains numbers n → IsOpenFault e → ((f : FileId) → old.faults f ≤ now.faults f) → (tells → OnlyReads now later) → (tells → IsUnread now.reads n e)
-    → (e ≡ logs.Disk → (f : FileId) × IsOfLog n f × HasRisen (now.faults f) (later.faults f)) → HasReplayCause tells numbers old later (fault_of n e)
-replay_fails tells numbers n old now later logs.Absent one_of is mono reads unread risen =
+pub replay_fails : (tells : Type 0) (numbers : List ℕ) (n : ℕ) (old now later : DiskView) (e : ViewFault) → Contains numbers n → ((f : FileId) → old.faults f ≤ now.faults f) → (tells → OnlyReads now later) → (tells → IsUnread now.reads n e)
+    → (e ≡ views.Disk → (f : FileId) × IsOfLog n f × HasRisen (now.faults f) (later.faults f)) → HasReplayCause tells numbers old later (fault_of n e)
+replay_fails tells numbers n old now later views.Absent one_of mono reads unread risen =
     (n, one_of, refl, λ told. subst (λ (image : Image). IsUnreadable n Slots image) (sym (same_image now later (reads told))) (unread told))
-replay_fails tells numbers n old now later (logs.Damaged part) one_of is mono reads unread risen =
+replay_fails tells numbers n old now later (views.Damaged part) one_of mono reads unread risen =
     (n, one_of, refl, λ told. subst (λ (image : Image). IsUnreadable n part image) (sym (same_image now later (reads told))) (unread told))
-replay_fails tells numbers n old now later logs.Disk one_of is mono reads unread risen =
+replay_fails tells numbers n old now later views.Disk one_of mono reads unread risen =
     let one = risen refl in (n, one_of, refl, (one.0, one.1, λ small. let m = mono one.0 in let r = one.2 small in omega (arith, m, r)))
-replay_fails tells numbers n old now later logs.NoMem one_of is mono reads unread risen = tt
-replay_fails tells numbers n old now later logs.Complete one_of is mono reads unread risen = absurd is
-replay_fails tells numbers n old now later (logs.NoPoint point) one_of is mono reads unread risen = absurd is
-replay_fails tells numbers n old now later logs.Broken one_of is mono reads unread risen = absurd is
-replay_fails tells numbers n old now later (logs.Full part) one_of is mono reads unread risen = absurd is
-replay_fails tells numbers n old now later (logs.TooLong point) one_of is mono reads unread risen = absurd is
+replay_fails tells numbers n old now later views.NoMem one_of mono reads unread risen = tt

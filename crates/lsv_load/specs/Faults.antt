@@ -10,8 +10,8 @@ use Rattle.lsv_disk.specs.declared.file.Part.TheVariants.{Exit, Slots, Timing}
 use Rattle.lsv_info.specs.declared.times.Head.{Head}
 use Rattle.lsv_iolog.specs.Damage.{IsViewDamage}
 use Rattle.lsv_iolog.specs.Recovered.{Replays, owner_of}
-use Rattle.lsv_iolog.specs.declared.fault.LogFault.{LogFault}
-use Rattle.lsv_iolog.specs.declared.fault.LogFault.TheVariants as logs
+use Rattle.lsv_iolog.specs.declared.fault.ViewFault.{ViewFault}
+use Rattle.lsv_iolog.specs.declared.fault.ViewFault.TheVariants as views
 use Rattle.lsv_keeper.specs.declared.fault.StoreFault.{StoreFault}
 use Rattle.lsv_keeper.specs.declared.fault.StoreFault.TheVariants.{Damaged, Device, LanesDiffer, NoMem}
 use Rattle.lsv_lane.specs.Store.{OwnerFailed}
@@ -54,16 +54,11 @@ pub record IsUnreadable (n : ℕ) (part : Part) (image : Image) : Type 0 where
 -- ---- The fault of a load
 
 -- the fault of a log that isn't replayed, as one of its store: an absent log lacks its journal
-abbrev pub fault_of : ℕ → LogFault → StoreFault
-fault_of n logs.Absent = Damaged (file_of (owner_of n) Slots)
-fault_of n (logs.Damaged part) = Damaged (file_of (owner_of n) part)
-fault_of n logs.Disk = Device (owner_of n)
-fault_of n logs.NoMem = NoMem
-fault_of n logs.Complete = NoMem
-fault_of n (logs.NoPoint point) = NoMem
-fault_of n logs.Broken = NoMem
-fault_of n (logs.Full part) = NoMem
-fault_of n (logs.TooLong point) = NoMem
+abbrev pub fault_of : ℕ → ViewFault → StoreFault
+fault_of n views.Absent = Damaged (file_of (owner_of n) Slots)
+fault_of n (views.Damaged part) = Damaged (file_of (owner_of n) part)
+fault_of n views.Disk = Device (owner_of n)
+fault_of n views.NoMem = NoMem
 
 -- why the logs of these numbers aren't replayed: a call on a file of one failed, or this file of one is at fault, of which the disk has no log
 abbrev pub HasReplayCause : (disk_tells : Type 0) (numbers : List ℕ) (old new : DiskView) → StoreFault → Type 0

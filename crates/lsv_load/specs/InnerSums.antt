@@ -8,8 +8,8 @@ use Rattle.lsv_disk.specs.declared.file.Part.TheVariants.{Slots}
 use Rattle.lsv_gen.specs.Summary.{totals_of, totals_with}
 use Rattle.lsv_gen.specs.declared.totals.Totals.{Totals}
 use Rattle.lsv_iolog.specs.Reading.{IsBehind, ViewState}
-use Rattle.lsv_iolog.specs.declared.fault.LogFault.{LogFault}
-use Rattle.lsv_iolog.specs.declared.fault.LogFault.TheVariants as logs
+use Rattle.lsv_iolog.specs.declared.fault.ViewFault.{ViewFault}
+use Rattle.lsv_iolog.specs.declared.fault.ViewFault.TheVariants as views
 use Rattle.lsv_play.specs.Playing.{AreAll, IsSoundSoFar, laid_at}
 use Rattle.lsv_record.specs.Points.{Stored}
 use Rattle.lsv_record.specs.declared.records.Record.{Record}
@@ -17,28 +17,18 @@ use Rattle.lsv_load.specs.Faults.{IsMisfit, IsUnreadable}
 use Rattle.lsv_load.specs.Replayed.{AreReplayed}
 
 -- an entry isn't one that a log has, by this part
-abbrev pub IsMisfitFault : Body → LogFault → Type 0
-IsMisfitFault body (logs.Damaged part) = IsMisfit body part
-IsMisfitFault body logs.Absent = ⊥
-IsMisfitFault body logs.Disk = ⊥
-IsMisfitFault body logs.NoMem = ⊥
-IsMisfitFault body logs.Complete = ⊥
-IsMisfitFault body (logs.NoPoint point) = ⊥
-IsMisfitFault body logs.Broken = ⊥
-IsMisfitFault body (logs.Full part) = ⊥
-IsMisfitFault body (logs.TooLong point) = ⊥
+abbrev pub IsMisfitFault : Body → ViewFault → Type 0
+IsMisfitFault body (views.Damaged part) = IsMisfit body part
+IsMisfitFault body views.Absent = ⊥
+IsMisfitFault body views.Disk = ⊥
+IsMisfitFault body views.NoMem = ⊥
 
 -- what is so of a log that isn't replayed for this fault
-abbrev pub IsUnread : Image → ℕ → LogFault → Type 0
-IsUnread image n logs.Absent = IsUnreadable n Slots image
-IsUnread image n (logs.Damaged part) = IsUnreadable n part image
-IsUnread image n logs.Disk = Unit {0}
-IsUnread image n logs.NoMem = Unit {0}
-IsUnread image n logs.Complete = ⊥
-IsUnread image n (logs.NoPoint point) = ⊥
-IsUnread image n logs.Broken = ⊥
-IsUnread image n (logs.Full part) = ⊥
-IsUnread image n (logs.TooLong point) = ⊥
+abbrev pub IsUnread : Image → ℕ → ViewFault → Type 0
+IsUnread image n views.Absent = IsUnreadable n Slots image
+IsUnread image n (views.Damaged part) = IsUnreadable n part image
+IsUnread image n views.Disk = Unit {0}
+IsUnread image n views.NoMem = Unit {0}
 
 -- all records of a log are added to sums over other logs
 pub record AddsAll (n : ℕ) (body : Body) (image : Image) (old new : Totals) : Type 0 where

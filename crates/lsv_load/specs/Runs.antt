@@ -5,16 +5,17 @@ use Rattle.lsv_disk.specs.View.{DiskView}
 use Rattle.lsv_gen.specs.Load.{conversation}
 use Rattle.lsv_gen.specs.Summary.{summary}
 use Rattle.lsv_keeper.specs.declared.fault.StoreFault.{StoreFault}
-use Rattle.lsv_keeper.specs.declared.fault.StoreFault.TheVariants as faults
+use Rattle.lsv_lane.specs.Store.{HasStoreCause}
 use Rattle.lsv_machine.specs.Machine.{Settings}
 use Rattle.lsv_port.specs.Memory.Value.{PortValue, TellsScript, TellsSteps, port_ledger, port_state}
 use Rattle.lsv_links.specs.Lanes.{one_lane}
 use Rattle.lsv_links.specs.Links.{PutsPrefixes, ServesPort}
+use Rattle.lsv_links.specs.Turns.{AreSized}
 use Rattle.lsv_links.specs.Views.{PortView}
 use Rattle.lsv_reactor.specs.declared.rounds.PortsEnd.TheVariants.{Stopped}
 use Rattle.lsv_record.specs.Points.{Stored}
 use Rattle.lsv_session.specs.declared.job.Job.{Job}
-use Rattle.lsv_service.specs.Runs.{HasStoreCause, RunsStore}
+use Rattle.lsv_service.specs.Runs.{RunsStore}
 use Rattle.lsv_service.specs.declared.run.End.{End}
 use Rattle.lsv_service.specs.declared.run.End.TheVariants as ends
 use Rattle.lsv_turn.specs.Turns.{LaneTurn, TapeTurn, jobs_in, replies_in}
@@ -80,13 +81,6 @@ LeavesLoad count turns = (turns ≡ []) ⊎ BreaksLoad count turns
 
 -- ---- The run
 
--- how a load ends of a fault of its store
-abbrev pub ended_by : StoreFault → LoadEnd
-ended_by faults.NoMem = NoMem
-ended_by (faults.Device o) = Store (faults.Device o)
-ended_by (faults.Damaged file) = Store (faults.Damaged file)
-ended_by (faults.LanesDiffer kept asked) = Store (faults.LanesDiffer kept asked)
-
 -- what is so where the logs of these numbers were summed up, or one of them wasn't replayed
 abbrev pub IsSumOf : (disk_tells : Type 0) (numbers : List ℕ) (served left : DiskView) → LoadEnd → Type 0
 IsSumOf disk_tells numbers served left (Served text) = disk_tells → (logs : List Stored) × AreReplayed left.reads numbers logs × (text ≡ summary logs)
@@ -96,7 +90,7 @@ IsSumOf disk_tells numbers served left NoMem = Unit {0}
 -- the store wasn't opened for this fault
 pub record IsNotOpened (disk_tells : Type 0) (found served : DiskView) (up : End) (fault : StoreFault) : Type 0 where
   pub is : up ≡ ends.Store fault
-  pub cause : HasStoreCause disk_tells found served fault
+  pub cause : HasStoreCause disk_tells 0 1 found served fault
 
 -- all conversations were served, and then the logs were summed up of which the turns told, or one of them wasn't replayed
 pub record IsServed (disk_tells : Type 0) (count : ℕ) (turns : List LaneTurn) (served left : DiskView) (up : End) (end : LoadEnd) : Type 0 where
@@ -115,6 +109,7 @@ pub record RunsLoad {D : Type 0} (disk_tells tape_tells : Type 0) (view : D → 
   pub turns : List LaneTurn
   pub served : D
   pub up : End
+  pub sized : AreSized turns
   pub store : RunsStore disk_tells tape_tells set texts (view found) (view served) tape tape' up turns
   pub read : disk_tells → OnlyReads (view served) (view left)
   pub ends : EndsLoad disk_tells count turns (view found) (view served) (view left) up end

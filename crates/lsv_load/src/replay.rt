@@ -11,26 +11,20 @@ use crate::logs::add_log;
 use lsv_base::LogNo;
 use lsv_disk::{Disk, FileId, Owner, Part};
 use lsv_gen::Totals;
-use lsv_iolog::LogFault;
+use lsv_iolog::ViewFault;
 use lsv_keeper::StoreFault;
 use std::alloc::Global;
 
 /// The fault of the log of this number, which isn't replayed, as one of its store.
-fn fault_of(number: LogNo, fault: LogFault) -> StoreFault
+fn fault_of(number: LogNo, fault: ViewFault) -> StoreFault
     ensures { result ≡ fault_of number fault }
 {
     let owner = Owner::Log(number.get());
     match fault {
-        LogFault::Absent => StoreFault::Damaged(FileId::new(owner, Part::Slots)),
-        LogFault::Damaged(part) => StoreFault::Damaged(FileId::new(owner, part)),
-        LogFault::Disk => StoreFault::Device(owner),
-        LogFault::NoMem => StoreFault::NoMem,
-        // Who only reads a log is never answered these.
-        LogFault::Complete
-        | LogFault::NoPoint(_)
-        | LogFault::Broken
-        | LogFault::Full(_)
-        | LogFault::TooLong(_) => StoreFault::NoMem,
+        ViewFault::Absent => StoreFault::Damaged(FileId::new(owner, Part::Slots)),
+        ViewFault::Damaged(part) => StoreFault::Damaged(FileId::new(owner, part)),
+        ViewFault::Disk => StoreFault::Device(owner),
+        ViewFault::NoMem => StoreFault::NoMem,
     }
 }
 

@@ -4,7 +4,7 @@ ghost use Rattle.std.specs.Prelude.{◌≡◌, ◌≢◌, ◌≤◌, ℕ, true, 
 ghost use Rattle.std.specs.Mem.{FitsInMemory};
 ghost use Rattle.lsv_disk.specs.Throughout.{OnlyReads};
 ghost use Rattle.lsv_lane.specs.InnerLane.{Begun};
-ghost use Rattle.lsv_lane.specs.Store.{IsFresh, lane_settings};
+ghost use Rattle.lsv_lane.specs.Store.{IsFresh, end_of_fault, lane_settings};
 ghost use Rattle.lsv_links.specs.Turns.{AreSized};
 ghost use Rattle.lsv_port.specs.Memory.Value.{port_state};
 ghost use Rattle.lsv_service.specs.Runs.{RunsStore};
@@ -12,7 +12,7 @@ ghost use Rattle.lsv_service.specs.declared.run.End.TheVariants as ends;
 ghost use Rattle.lsv_turn.specs.Turns.{LaneTurn, replies_in};
 ghost use Rattle.lsv_load.specs.Numbers.{numbers_told};
 ghost use Rattle.lsv_gen.specs.Load.{conversation};
-ghost use Rattle.lsv_load.specs.Runs.{IsSumOf, LeavesLoad, PutsOne, RunsLoad, ServesLoad, ServesOne, ended_by};
+ghost use Rattle.lsv_load.specs.Runs.{IsSumOf, LeavesLoad, PutsOne, RunsLoad, ServesLoad, ServesOne};
 
 use crate::numbering::Numbering;
 use crate::replay::sum_up;
@@ -22,12 +22,11 @@ use lsv_disk::Disk;
 use lsv_endpoint::WorkerEndpoint;
 use lsv_gen::{conversation, summary};
 use lsv_hook::LineWriter;
-use lsv_keeper::StoreFault;
+use lsv_keeper::{LaneId, Policy, StoreFault};
 use lsv_lane::{Bay, StoreLane};
 use lsv_mask::Search;
 use lsv_port::MemPort;
 use lsv_reactor::{Endpoint, PortsEnd, serve};
-use lsv_service::Plan;
 use lsv_turn::{Lane, Tape};
 use std::alloc::Global;
 use std::slice;
@@ -46,7 +45,7 @@ pub enum LoadEnd {
 
 /// How a load ends of a fault of its store.
 fn ended_by(fault: StoreFault) -> LoadEnd
-    ensures { result ≡ ended_by fault }
+    ensures { result ≡ end_of_fault LoadEnd.Store LoadEnd.NoMem fault }
 {
     match fault {
         StoreFault::NoMem => LoadEnd::NoMem,
@@ -148,9 +147,9 @@ fn serve_lane<D: Disk, C: Clock, G: Tape, F: LineWriter + Drop, H: Search + Drop
     requires lane { (start : Begun D G) × ⟦<StoreLane<D, C, G, F, H> as Lane>⟧.made_by start lane [] }
     ensures ok { IfOk result.1 (λ numbers. (start : Begun D G) → ⟦<StoreLane<D, C, G, F, H> as Lane>⟧.made_by start lane [] →
         (turns : List LaneTurn) × RunsStore D.tells G.tells start.set start.texts (D.view start.disk) (D.view result.0.disk) (G.turns start.tape) (G.turns result.0.tape) (ends.Over PortsEnd.Stopped) turns
-        × ServesLoad D.tells count turns × (numbers.items ≡ numbers_told (replies_in turns))) }
+        × AreSized turns × ServesLoad D.tells count turns × (numbers.items ≡ numbers_told (replies_in turns))) }
     ensures err { OnErr result.1 ((start : Begun D G) → ⟦<StoreLane<D, C, G, F, H> as Lane>⟧.made_by start lane [] →
-        (turns : List LaneTurn) × RunsStore D.tells G.tells start.set start.texts (D.view start.disk) (D.view result.0.disk) (G.turns start.tape) (G.turns result.0.tape) ends.NoMem turns × LeavesLoad count turns) }
+        (turns : List LaneTurn) × RunsStore D.tells G.tells start.set start.texts (D.view start.disk) (D.view result.0.disk) (G.turns start.tape) (G.turns result.0.tape) ends.NoMem turns × AreSized turns × LeavesLoad count turns) }
     ensures places { D.tells → (start : Begun D G) → ⟦<StoreLane<D, C, G, F, H> as Lane>⟧.made_by start lane [] → (D.view result.0.disk).places ≡ (D.view start.disk).places }
     ensures fresh { D.tells → (start : Begun D G) → ⟦<StoreLane<D, C, G, F, H> as Lane>⟧.made_by start lane [] → IsFresh start.set.lane start.set.lanes (D.view result.0.disk) }
 {
@@ -212,22 +211,17 @@ pub fn run_load<D: Disk, C: Clock, G: Tape, F: LineWriter + Drop, H: Search + Dr
     alloc: Global,
     count: u32,
     bay: Bay<D, C, G>,
-    plan: Plan<F, H>,
+    policy: Policy<F, H>,
 ) -> (Bay<D, C, G>, LoadEnd)
     requires first { 1 ≤ count }
     requires last { count ≤ 10000 }
     requires fresh { D.tells → IsFresh 0 1 (D.view bay.disk) }
-    ensures runs { RunsLoad D.tells G.tells D.view (lane_settings 0 1 plan.formatter.kind plan.log_exit) plan.texts count bay.disk result.0.disk (G.turns bay.tape) (G.turns result.0.tape) result.1 }
+    ensures runs { RunsLoad D.tells G.tells D.view (lane_settings 0 1 policy.formatter.kind policy.log_exit) policy.texts count bay.disk result.0.disk (G.turns bay.tape) (G.turns result.0.tape) result.1 }
     ensures places { D.tells → (D.view result.0.disk).places ≡ (D.view bay.disk).places }
     ensures fresh_again { D.tells → IsFresh 0 1 (D.view result.0.disk) }
 {
-    let Plan {
-        formatter,
-        log_exit,
-        texts,
-        prompt,
-    } = plan;
-    match StoreLane::open(alloc, bay, 0, 1, formatter, log_exit, texts, prompt) {
+    let lane = LaneId { number: 0, of: 1 };
+    match StoreLane::open(alloc, bay, lane, policy) {
         Ok(lane) => load_lane(alloc, count, lane),
         Err(failed) => {
             let end = ended_by(failed.fault);

@@ -1,6 +1,6 @@
 -- A legal conversation over a link of a server is served, where nothing is in its way.
 use Rattle.std.proofs.Common.{◌≡◌, ◌≤◌, ◌<◌, ◌+◌, ◌-◌, ◌^◌, ℕ, List, [], ◌∷◌, ◌++◌, map, refl, sym, ◌∙◌, ap, subst, inl, inr, arith, Option, Some, None, append-nil}
-use Rattle.std.specs.Prelude.{◌||◌, Bool, true, false, nat_lt, Contains}
+use Rattle.std.specs.Prelude.{◌||◌, ◌%◌, Bool, true, false, nat_lt, Contains}
 use Rattle.std.proofs.lemmas.Bool.Decides.{nat_tests}
 use Rattle.std.proofs.lemmas.List.Elements.{Contains-append_left, Contains-append_right, Contains-push}
 use Rattle.lsv_defs.specs.Causes.{HasRisen}
@@ -43,7 +43,9 @@ use Rattle.lsv_links.specs.Links.{AtMostStarved, Brings, Puts, ServesBy, ServesL
 use Rattle.lsv_links.specs.Links as links
 use Rattle.lsv_links.specs.Views.{LinkFailed, PortView}
 use Rattle.lsv_links.proofs.LaneLemmas.{one_lane_serves}
-use Rattle.lsv_service.specs.Complete.{AllAmple, AreAmple, Completes, IsServedBy, IsUnhindered, answers_of, came_by, messages_of}
+use Rattle.lsv_service.specs.Complete.{AllAmple, AreAmple, Completes, CompletesLanes, IsServedBy, IsUnhindered, KeepLanes, answers_of, came_by, messages_of}
+use Rattle.lsv_service.specs.Lanes.{BayView}
+use Rattle.lsv_service.proofs.HomeLane.{home_lane}
 use Rattle.lsv_service.proofs.Leaving.{isnt_shut_early, unshut_replies}
 use Rattle.lsv_service.proofs.Sent.{NoGone, ends_with_gone, first_no_gone, jobs_no_gone, replies_are, said_all, spoken, spoken_all, told_same, turns_sent}
 
@@ -235,3 +237,17 @@ completes disk_tells told set texts found left turns keeps worker before after s
     let by_lane : ServesLink (λ m. disk_tells) 1 (conn_of worker seq) l (λ m. jobs_in (one_lane m turns)) (λ m. replies_in (one_lane m turns)) before after =
     subst (λ (s : Option ℕ). links.IsServed (λ m. disk_tells) 1 worker l s (λ m. jobs_in (one_lane m turns)) (λ m. replies_in (one_lane m turns)) before after) seat (served.served l opened) in
     link_served disk_tells set texts found left turns keeps (conn_of worker seq) l before after told (one_lane_serves (λ m. disk_tells) 1 (conn_of worker seq) l turns before after by_lane) bodies u
+
+-- and so by its home lane, if there are several
+pub completes_lanes : {X : Type 0} (disk_tells : Type 0) → disk_tells → (view : X → BayView) (set : ℕ → Settings) (texts : List (List ℕ)) (lanes opened : ℕ) (olds news : List X) (turns : ℕ → List LaneTurn) (keeps : KeepLanes view set texts opened olds news turns)
+    → (worker : ℕ) (before after : PortView) (served : ServesPort (λ m. disk_tells) lanes worker (λ m. jobs_in (turns m)) (λ m. replies_in (turns m)) before after) → CompletesLanes view set texts lanes opened olds news turns keeps worker before after served
+completes_lanes disk_tells told view set texts lanes opened olds news turns keeps worker before after served l seq bodies found left opens seat below was is u =
+    let home : ℕ = seq % lanes in
+    let k : ConnId = conn_of worker seq in
+    let link : ServesLink (λ m. disk_tells) lanes k l (λ m. jobs_in (turns m)) (λ m. replies_in (turns m)) before after =
+    subst (λ (s : Option ℕ). links.IsServed (λ m. disk_tells) lanes worker l s (λ m. jobs_in (turns m)) (λ m. replies_in (turns m)) before after) seat (served.served l opens) in
+    let by_lane : ServesBy disk_tells k l (jobs_in (turns link.lane)) (replies_in (turns link.lane)) before after = link.by_lane in
+    let at_home : link.lane ≡ home =
+    home_lane lanes home link.lane u.number Fresh (after.state.link l).input (shuts k (replies_in (turns link.lane))) bodies (bodies_of k (jobs_in (turns link.lane))) by_lane.brings (one_list by_lane.brings.of_input u.sent) u.legal link.decided in
+    link_served disk_tells (set home) texts (view found).disk (view left).disk (turns home) (keeps home found left below was is) k l before after told
+    (subst (λ (m : ℕ). ServesBy disk_tells k l (jobs_in (turns m)) (replies_in (turns m)) before after) at_home by_lane) bodies u

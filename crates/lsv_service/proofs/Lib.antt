@@ -1,5 +1,11 @@
+pub mod Places
+pub mod Idle
+pub mod Stores
 pub mod RunLemmas
+pub mod Whole
 pub mod Written
 pub mod Leaving
 pub mod Sent
+pub mod HomeLane
 pub mod CompleteLemmas
+pub mod Keeping

@@ -1,78 +1,26 @@
--- Runs whose store was opened, and those whose store wasn't.
-use Rattle.std.proofs.Common.{◌≡◌, ◌≢◌, ◌<◌, ◌≤◌, ◌+◌, [], List, ℕ, Some, None, length, get_or, refl, sym, subst, ◌∙◌, append-nil, inl, inr, ⊎_elim, arith}
-use Rattle.std.specs.Prelude.{slice_get}
+-- What a run makes of its endpoints: each is asked to listen, then they are served.
+use Rattle.std.proofs.Common.{◌≡◌, ◌<◌, ◌+◌, [], List, ℕ, Some, length, get_or, refl, sym, subst, ◌∙◌, inl, inr, ⊎_elim, arith}
+use Rattle.std.specs.Prelude.{Result, Ok, Err, slice_get}
 use Rattle.std.proofs.Math.ListN.{set}
 use Rattle.std.proofs.lemmas.Option.{slice_get-get_or, slice_get_within}
 use Rattle.lsv_reactor.proofs.Own.{EqOr.equal, EqOr.unequal, eq_or}
 use Rattle.lsv_reactor.proofs.Places.{set_here, set_there}
+use Rattle.lsv_base.specs.declared.no_mem.NoMem.{NoMem as OutOfMemory}
 use Rattle.lsv_defs.specs.Causes.{HasRisen}
-use Rattle.lsv_port.specs.Ledger.{Continues, Listening, WasAsked}
-use Rattle.lsv_links.specs.Views.{PortView}
-use Rattle.lsv_reactor.specs.Served.{KeepPorts, PutsAll}
-use Rattle.lsv_disk.specs.View.{DiskView}
-use Rattle.lsv_disk.specs.declared.file.Owner.{Owner}
-use Rattle.lsv_machine.specs.Machine.{Settings}
-use Rattle.lsv_machine.specs.Recovery.{Outside}
-use Rattle.lsv_keeper.specs.Opening.{IsStoreFault, KeepsEntry}
 use Rattle.lsv_keeper.specs.declared.fault.StoreFault.{StoreFault}
 use Rattle.lsv_keeper.specs.declared.fault.StoreFault.TheVariants as faults
-use Rattle.lsv_seq.specs.Drawn.{entry_at}
-use Rattle.lsv_turn.specs.Turns.{LaneTurn, TapeTurn}
-use Rattle.lsv_lane.specs.Store.{KeepsStore, OwnerFailed}
-use Rattle.lsv_service.specs.Runs.{HasEndCause, HasTurns, IsUp, LeavesPorts, ListenAt, ListenFailed, RunsStore, unopened}
+use Rattle.lsv_lane.specs.Store.{end_of_fault}
+use Rattle.lsv_links.specs.Views.{PortView}
+use Rattle.lsv_port.specs.Ledger.{Continues, Listening, WasAsked}
+use Rattle.lsv_reactor.specs.Served.{KeepPorts}
+use Rattle.lsv_reactor.specs.declared.endpoint.Endpoint
 use Rattle.lsv_reactor.specs.declared.rounds.PortsEnd.{PortsEnd}
-use Rattle.lsv_service.specs.declared.run.End.{End}
-use Rattle.lsv_service.specs.declared.run.End.TheVariants.{Over, Store, NoMem}
-
--- what holds where the store was opened, holds for less
-pub keeps_less : (up less : Type 0) (set : Settings) (texts : List (List ℕ)) (o : Outside) (turns : List LaneTurn) → (less → up) → KeepsStore up set texts o turns → KeepsStore less set texts o turns
-keeps_less up less set texts o turns f k = record { story = k.story; are = k.are; conforms = λ x. k.conforms (f x); recovers = k.recovers; spared = k.spared }
-
-no_turns : (fault : StoreFault) → HasTurns (unopened fault) []
-no_turns faults.NoMem = tt
-no_turns (faults.Device o) = refl
-no_turns (faults.Damaged file) = refl
-no_turns (faults.LanesDiffer kept asked) = refl
-
-not_up : (fault : StoreFault) → IsUp (unopened fault) [] → ⊥
-not_up faults.NoMem up = up refl
-not_up (faults.Device o) up = up
-not_up (faults.Damaged file) up = up
-not_up (faults.LanesDiffer kept asked) up = up
-
-pub not_over : (fault : StoreFault) (end : PortsEnd) → unopened fault ≡ Over end → ⊥
-not_over faults.NoMem end e = cc
-not_over (faults.Device o) end e = cc
-not_over (faults.Damaged file) end e = cc
-not_over (faults.LanesDiffer kept asked) end e = cc
-
-pub unopened_cause : (tells : Type 0) (found left : DiskView) (fault : StoreFault) → (tells → IsStoreFault 0 1 found.reads fault) → ((o : Owner) → fault ≡ faults.Device o → OwnerFailed o found left) → HasEndCause tells found left (unopened fault)
-unopened_cause tells found left faults.NoMem is failed = tt
-unopened_cause tells found left (faults.Device o) is failed = record { memory = λ e. cc; is = is; failed = failed }
-unopened_cause tells found left (faults.Damaged file) is failed = record { memory = λ e. cc; is = is; failed = failed }
-unopened_cause tells found left (faults.LanesDiffer kept asked) is failed = record { memory = λ e. cc; is = is; failed = failed }
-
--- a run whose store wasn't opened
-pub runs_unopened : (tells taping : Type 0) (set : Settings) (texts : List (List ℕ)) (found left : DiskView) (tape tape' : List TapeTurn) (fault : StoreFault) → tape' ≡ tape → (tells → KeepsStore ⊥ set texts (record { found = found; left = left }) []) → (tells → entry_at 0 found.reads ≢ None → KeepsEntry 0 found left)
-    → RunsStore tells taping set texts found left tape tape' (unopened fault) []
-runs_unopened tells taping set texts found left tape tape' fault same keeps entry = record {
-  some = no_turns fault;
-  sized = tt;
-  timed = tt;
-  answered = λ some. absurd (some refl);
-  entry = λ other is told some. entry told some;
-  taped = λ told. same ∙ sym (append-nil tape);
-  keeps = λ told. keeps_less ⊥ (IsUp (unopened fault) []) set texts (record { found = found; left = left }) [] (not_up fault) (keeps told);
-}
-
--- an end of a run whose store was opened needs no cause
-pub opened_cause : (tells : Type 0) (found left : DiskView) (end : End) → ((fault : StoreFault) → end ≡ Store fault → ⊥) → HasEndCause tells found left end
-opened_cause tells found left (Over ports) no_fault = tt
-opened_cause tells found left (Store fault) no_fault = absurd (no_fault fault refl)
-opened_cause tells found left NoMem no_fault = tt
-
-pub same_end : (a b : PortsEnd) → Over a ≡ Over b → a ≡ b
-same_end a b e = cc
+use Rattle.lsv_threads.specs.Served.{PutsLanes, ServesLanes}
+use Rattle.lsv_turn.specs.Turns.{LaneTurn}
+use Rattle.lsv_service.specs.InnerRun.{end_of_serving}
+use Rattle.lsv_service.specs.Lanes.{LeavesLinks}
+use Rattle.lsv_service.specs.Runs.{ListenAt, ListenFailed}
+use Rattle.lsv_service.specs.declared.run.End.TheVariants.{Store, NoMem}
 
 -- ---- What ports were asked to listen on
 
@@ -124,16 +72,24 @@ listen_on {T} view asked olds mids news count at keep i old new was is =
     let mid = mid_at olds mids i old count was in
     asked_on asked (view old) (view mid.0) (view new) (at i old mid.0 was mid.1) (keep i mid.0 new mid.1 is)
 
--- how a run leaves its ports whose store was opened
-pub leaves_ports : {T S : Type 0} (tells : Type 0) (begun : S → PortView) (view : T → PortView) (starts : ℕ → S) (asked : Listening) (olds news : List T) (turns : List LaneTurn) (end : End) → ((fault : StoreFault) → end ≡ Store fault → ⊥)
-    → (tells → ListenAt view asked olds news) → (end ≡ NoMem → PutsAll tells begun view starts news turns) → LeavesPorts tells begun view starts asked olds news turns end
-leaves_ports {T} tells begun view starts asked olds news turns (Over ports) no_fault at put = at
-leaves_ports {T} tells begun view starts asked olds news turns (Store fault) no_fault at put = absurd (no_fault fault refl)
-leaves_ports {T} tells begun view starts asked olds news turns NoMem no_fault at put = inr (at, put refl)
+-- ---- How a run leaves its endpoints
 
--- and whose store wasn't
-pub keeps_ports : {T S : Type 0} (tells : Type 0) (begun : S → PortView) (view : T → PortView) (starts : ℕ → S) (asked : Listening) (olds : List T) (fault : StoreFault) → LeavesPorts tells begun view starts asked olds olds [] (unopened fault)
-keeps_ports {T} tells begun view starts asked olds faults.NoMem = inl (refl, refl)
-keeps_ports {T} tells begun view starts asked olds (faults.Device o) = refl
-keeps_ports {T} tells begun view starts asked olds (faults.Damaged file) = refl
-keeps_ports {T} tells begun view starts asked olds (faults.LanesDiffer kept asked_for) = refl
+-- the stores of all lanes were opened
+pub leaves_links : {T : Type 0} (words : Endpoint.Ghosts T) (lane_tells : Type 0) (lanes : ℕ) (starts : ℕ → words.Start) (asked : Listening) (olds news : List T) (turns : ℕ → List LaneTurn) (end : Result PortsEnd OutOfMemory)
+    → (words.tells → ListenAt words.view asked olds news) → ((ports : PortsEnd) → end ≡ Ok ports → ServesLanes words lane_tells lanes starts news turns ports) → ((why : OutOfMemory) → end ≡ Err why → PutsLanes words starts news turns)
+    → LeavesLinks words lane_tells lanes starts asked olds news turns (end_of_serving end)
+leaves_links words lane_tells lanes starts asked olds news turns (Ok ports) at ended broken = (at, ended ports refl)
+leaves_links words lane_tells lanes starts asked olds news turns (Err why) at ended broken = inr (at, broken why refl)
+
+-- one wasn't
+pub keeps_links : {T : Type 0} (words : Endpoint.Ghosts T) (lane_tells : Type 0) (lanes : ℕ) (starts : ℕ → words.Start) (asked : Listening) (olds : List T) (fault : StoreFault)
+    → LeavesLinks words lane_tells lanes starts asked olds olds (λ l. []) (end_of_fault Store NoMem fault)
+keeps_links words lane_tells lanes starts asked olds faults.NoMem = inl (λ l. refl, refl)
+keeps_links words lane_tells lanes starts asked olds (faults.Device o) = refl
+keeps_links words lane_tells lanes starts asked olds (faults.Damaged file) = refl
+keeps_links words lane_tells lanes starts asked olds (faults.LanesDiffer kept asked_for) = refl
+
+-- a run whose endpoints were served ended with no fault of a store
+pub served_opened : (end : Result PortsEnd OutOfMemory) (fault : StoreFault) → end_of_serving end ≡ Store fault → ⊥
+served_opened (Ok ports) fault e = cc
+served_opened (Err why) fault e = cc

@@ -1,5 +1,5 @@
 -- Which links of a server are served to their end, and how: each over which a legal conversation comes that opens a log, where nothing is in its way.
-use Rattle.std.specs.Prelude.{◌≡◌, ◌≤◌, ◌<◌, ◌++◌, ℕ, List, [], ◌∷◌, map, Some, Contains}
+use Rattle.std.specs.Prelude.{◌≡◌, ◌≤◌, ◌<◌, ◌%◌, ◌++◌, ℕ, List, [], ◌∷◌, map, Some, Contains, slice_get}
 use Rattle.std.specs.List.{flat_map}
 use Rattle.lsv_defs.specs.Causes.{HasRisen}
 use Rattle.lsv_disk.specs.View.{DiskView}
@@ -29,6 +29,7 @@ use Rattle.lsv_lane.specs.Store.{KeepsStore}
 use Rattle.lsv_links.specs.Lanes.{one_lane}
 use Rattle.lsv_links.specs.Links.{Puts, ServesPort, conn_of}
 use Rattle.lsv_links.specs.Views.{LinkFailed, PortView}
+use Rattle.lsv_service.specs.Lanes.{BayView}
 
 -- ---- What may be in the way
 
@@ -92,3 +93,20 @@ Completes set texts found left turns keeps worker before after served =
     (l seq : ℕ) (bodies : List Body) → Contains served.seats.opened l → served.seats.seat l ≡ Some seq
     → IsUnhindered set found left (conn_of worker seq) (after.state.link l).input turns (keeps.conforms tt).ran.start keeps.story bodies
     → (n : ℕ) × IsServedBy set texts found left (conn_of worker seq) (after.state.link l) (LinkFailed l before after) turns bodies n
+
+-- ---- Of several lanes
+
+-- what the turns of each lane did with its store, of this many that were opened
+abbrev pub KeepLanes : {X : Type 0} (view : X → BayView) (set : ℕ → Settings) (texts : List (List ℕ)) (opened : ℕ) (olds news : List X) (turns : ℕ → List LaneTurn) → Type 0
+KeepLanes {X} view set texts opened olds news turns = (m : ℕ) (found left : X) → m < opened → slice_get olds m ≡ Some found → slice_get news m ≡ Some left
+    → KeepsStore (Unit {0}) (set m) texts (record { found = (view found).disk; left = (view left).disk }) (turns m)
+
+-- Each link of this worker's port that was opened as a connection, and over which a legal conversation came, was served so by its home
+-- lane, if nothing was in the way.
+abbrev pub CompletesLanes : {X disk_tells : Type 0} (view : X → BayView) (set : ℕ → Settings) (texts : List (List ℕ)) (lanes opened : ℕ) (olds news : List X) (turns : ℕ → List LaneTurn) → KeepLanes view set texts opened olds news turns
+    → (worker : ℕ) (before after : PortView) → ServesPort (λ m. disk_tells) lanes worker (λ m. jobs_in (turns m)) (λ m. replies_in (turns m)) before after → Type 0
+CompletesLanes {X} view set texts lanes opened olds news turns keeps worker before after served =
+    (l seq : ℕ) (bodies : List Body) (found left : X) → Contains served.seats.opened l → served.seats.seat l ≡ Some seq
+    → (below : seq % lanes < opened) (was : slice_get olds (seq % lanes) ≡ Some found) (is : slice_get news (seq % lanes) ≡ Some left)
+    → IsUnhindered (set (seq % lanes)) (view found).disk (view left).disk (conn_of worker seq) (after.state.link l).input (turns (seq % lanes)) ((keeps (seq % lanes) found left below was is).conforms tt).ran.start (keeps (seq % lanes) found left below was is).story bodies
+    → (n : ℕ) × IsServedBy (set (seq % lanes)) texts (view found).disk (view left).disk (conn_of worker seq) (after.state.link l) (LinkFailed l before after) (turns (seq % lanes)) bodies n

@@ -1,12 +1,13 @@
-//! A server over the store of one lane.
+//! A server over the stores of its lanes.
 #![tactic(auto)]
 
 mod laws;
 mod notices;
-mod plan;
 mod run;
 
-pub use laws::a_legal_conversation_over_a_link_is_served;
+pub use laws::{
+    a_legal_conversation_is_served_by_its_home_lane, a_legal_conversation_over_a_link_is_served,
+    lanes_keep_apart,
+};
 pub use notices::{Notices, Site};
-pub use plan::Plan;
-pub use run::{End, serve_store};
+pub use run::{End, Stored, serve_store};

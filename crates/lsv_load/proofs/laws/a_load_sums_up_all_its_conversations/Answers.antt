@@ -19,7 +19,7 @@ returns g c = λ set texts count found left tape new_tape small text run told up
     let served : DiskView = g.D.Disk.view run.served in
     let kept = run.store.keeps told in
     let keeps : KeepsStore (Unit {0}) set texts (record { found = was; left = served }) run.turns = record { story = kept.story; are = kept.are; conforms = λ x. kept.conforms up; recovers = kept.recovers; spared = kept.spared } in
-    let runs : RunsStore g.D.Disk.tells g.G.Tape.tells set texts was served tape new_tape (Over Stopped) run.turns = record { some = tt; sized = run.store.sized; timed = run.store.timed; answered = run.store.answered; entry = λ fault is. absurd (cc); taped = run.store.taped; keeps = λ t. keeps } in
+    let runs : RunsStore g.D.Disk.tells g.G.Tape.tells set texts was served tape new_tape (Over Stopped) run.turns = record { some = tt; timed = run.store.timed; answered = run.store.answered; entry = λ fault is. absurd (cc); taped = run.store.taped; keeps = λ t. keeps } in
     let load = run.ends.load in
     let (logs, are, is) = run.ends.sum told in
     is ∙ summary_is g.D.Disk.tells set texts count small was served run.turns keeps load

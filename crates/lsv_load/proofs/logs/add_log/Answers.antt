@@ -3,7 +3,7 @@ use Rattle.std.proofs.Common.{◌∙◌, ◌==◌, ℕ, Some, sym, ap, subst}
 use Rattle.lsv_disk.specs.View.{DiskView, Image}
 use Rattle.lsv_disk.proofs.Composition.{reads_trans}
 use Rattle.lsv_bundle.specs.declared.body.Body.{Body}
-use Rattle.lsv_iolog.specs.declared.fault.LogFault.TheVariants as logs
+use Rattle.lsv_iolog.specs.declared.fault.ViewFault.TheVariants as views
 use Rattle.lsv_iolog.specs.Recovered.{Replays}
 use Rattle.lsv_iolog.proofs.Viewing.{err_of}
 use Rattle.lsv_play.specs.Playing.{text_at}
@@ -19,8 +19,8 @@ use Rattle.lsv_load.proofs.logs.add_log.Goals as goal
 pub returns-in_err-log-clause-unread : goal.returns-in_err-log-clause-unread
 returns-in_err-log-clause-unread g c told =
     err_holds c.from_residual.result c.in_err-log.field-0.0 (IsUnread (g.D.Disk.view c.args.disk.now).reads c.args.number) c.from_residual.ensures.1
-    (open_fails c.args.number (g.D.Disk.view c.args.disk.now).reads c.in_err-log.field-0.0 c.in_err-log.ensures.fault (λ at. c.in_err-log.ensures.absent told (err_of c.in_err-log.field-0.0 logs.Absent at))
-    (λ part at. c.in_err-log.ensures.damaged told part (err_of c.in_err-log.field-0.0 (logs.Damaged part) at)))
+    (open_fails c.args.number (g.D.Disk.view c.args.disk.now).reads c.in_err-log.field-0.0 (λ at. c.in_err-log.ensures.absent told (err_of c.in_err-log.field-0.0 views.Absent at))
+    (λ part at. c.in_err-log.ensures.damaged told part (err_of c.in_err-log.field-0.0 (views.Damaged part) at)))
 
 pub returns-in_err-check_entry-clause-unread : goal.returns-in_err-check_entry-clause-unread
 returns-in_err-check_entry-clause-unread g c told =

@@ -1,7 +1,7 @@
 -- Each record that the log gives is added; its end, or a fault, ends the adding.
 use Rattle.std.proofs.Common.{◌++◌, List, [], ◌∷◌, Option}
 use Rattle.lsv_disk.proofs.Composition.{reads_trans}
-use Rattle.lsv_iolog.specs.declared.fault.LogFault.TheVariants as logs
+use Rattle.lsv_iolog.specs.declared.fault.ViewFault.TheVariants as views
 use Rattle.lsv_iolog.specs.Reading.{IsBehind, IsWhole}
 use Rattle.lsv_iolog.proofs.Scans.{if_none_at, if_some_at, none_there}
 use Rattle.lsv_iolog.proofs.Viewing.{err_is, err_of}
@@ -25,7 +25,7 @@ pub returns-in_err-record-clause-unread : goal.returns-in_err-record-clause-unre
 returns-in_err-record-clause-unread g c told fits fresh opened =
     err_holds c.from_residual.result c.in_err-record.field-0.0 (IsUnread (g.D.Disk.view c.args.disk.now).reads c.args.log.now.number) c.from_residual.ensures.1
     (next_fails g.D.Disk.tells c.args.log.now c.records.log (g.D.Disk.view c.args.disk.now) (g.D.Disk.view c.records.disk) c.args.totals.now c.records.totals c.records.invariant told fresh c.in_err-record.field-0.0 c.in_err-record.ensures.fault
-    (λ part at. c.in_err-record.ensures.damaged told part (err_of {T = Option Record} c.in_err-record.field-0.0 (logs.Damaged part) at)) fits opened)
+    (λ part at. c.in_err-record.ensures.damaged told part (err_of {T = Option Record} c.in_err-record.field-0.0 (views.Damaged part) at)) fits opened)
 
 pub returns-in_err-record-clause-reads : goal.returns-in_err-record-clause-reads
 returns-in_err-record-clause-reads g c told =
@@ -34,7 +34,7 @@ returns-in_err-record-clause-reads g c told =
 pub returns-in_err-record-clause-cause : goal.returns-in_err-record-clause-cause
 returns-in_err-record-clause-cause g c =
     own_cause c.args.log.now.number c.records.log.number _ _ (g.D.Disk.view c.args.disk.now) (g.D.Disk.view c.records.disk) (g.D.Disk.view c.next.new.disk) c.records.invariant.number c.records.invariant.disk c.in_err-record.ensures.cause
-    (λ is. err_of {T = Option Record} c.in_err-record.field-0.0 logs.Disk (err_is c.from_residual.result c.in_err-record.field-0.0 logs.Disk c.from_residual.ensures.1 is))
+    (λ is. err_of {T = Option Record} c.in_err-record.field-0.0 views.Disk (err_is c.from_residual.result c.in_err-record.field-0.0 views.Disk c.from_residual.ensures.1 is))
 
 pub returns-in_default-clause-added : goal.returns-in_default-clause-added
 returns-in_default-clause-added g c told fresh =

@@ -5,7 +5,7 @@ use Rattle.std.proofs.lemmas.List.{take_more}
 use Rattle.std.proofs.lemmas.List.Elements.{Contains-get_or}
 use Rattle.lsv_disk.specs.View.{DiskView}
 use Rattle.lsv_gen.specs.Summary.{totals_of}
-use Rattle.lsv_iolog.specs.declared.fault.LogFault.TheVariants as logs
+use Rattle.lsv_iolog.specs.declared.fault.ViewFault.TheVariants as views
 use Rattle.lsv_iolog.specs.Recovered.{Replays}
 use Rattle.lsv_iolog.proofs.Viewing.{err_of}
 use Rattle.lsv_record.specs.Points.{Stored}
@@ -22,8 +22,8 @@ returns-in-Err-clause-cause g c =
     let within : c.loop-number.number-index < length c.args.numbers.now = omega arith in
     let one_of : Contains c.args.numbers.now c.number-item.result = subst (Contains c.args.numbers.now) (sym c.number-item.is) (Contains-get_or c.args.numbers.now c.loop-number.number-index c.number-item.result within) in
     subst (HasReplayCause g.D.Disk.tells c.args.numbers.now old later) (sym c.fault_of.ensures)
-    (replay_fails g.D.Disk.tells c.args.numbers.now c.number-item.result old now later c.in-Err.fault one_of c.in-Err.ensures.fault c.loop-number.invariant.disk (λ told. c.add_log.ensures.reads told) (λ told. c.in-Err.ensures.unread told)
-    (λ at. c.in-Err.ensures.cause.risen (err_of c.in-Err.fault logs.Disk at)))
+    (replay_fails g.D.Disk.tells c.args.numbers.now c.number-item.result old now later c.in-Err.fault one_of c.loop-number.invariant.disk (λ told. c.add_log.ensures.reads told) (λ told. c.in-Err.ensures.unread told)
+    (λ at. c.in-Err.ensures.cause.risen (err_of c.in-Err.fault views.Disk at)))
 
 pub loop-number-preserved : goal.loop-number-preserved
 loop-number-preserved g c =

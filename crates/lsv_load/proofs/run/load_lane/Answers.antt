@@ -13,10 +13,11 @@ returns-in-Ok-clause-runs g c start made =
       turns = ran.0;
       served = c.serve_lane-bay.result.0.disk;
       up = ends.Over Stopped;
+      sized = ran.2;
       store = ran.1;
       read = λ told. c.sum_logs-end.ensures.reads told;
-      ends = served_ends g.D.Disk.tells c.args.count ran.0 (g.D.Disk.view start.disk) (g.D.Disk.view c.serve_lane-bay.result.0.disk) (g.D.Disk.view c.sum_logs-end.new.disk) c.deref.result.now c.sum_logs-end.result ran.2
-          (c.deref.ensures.value ∙ ran.3) c.sum_logs-end.ensures.is;
+      ends = served_ends g.D.Disk.tells c.args.count ran.0 (g.D.Disk.view start.disk) (g.D.Disk.view c.serve_lane-bay.result.0.disk) (g.D.Disk.view c.sum_logs-end.new.disk) c.deref.result.now c.sum_logs-end.result ran.3
+          (c.deref.ensures.value ∙ ran.4) c.sum_logs-end.ensures.is;
     }
 
 pub returns-in-Err-clause-runs : goal.returns-in-Err-clause-runs
@@ -26,9 +27,10 @@ returns-in-Err-clause-runs g c start made =
       turns = ran.0;
       served = c.serve_lane-bay.result.0.disk;
       up = ends.NoMem;
+      sized = ran.2;
       store = ran.1;
       read = λ told. reads_nothing (g.D.Disk.view c.serve_lane-bay.result.0.disk) (g.met.D.Disk.only_now told c.serve_lane-bay.result.0.disk);
-      ends = ran.2;
+      ends = ran.3;
     }
 
 pub returns-in-Ok-clause-places : goal.returns-in-Ok-clause-places

@@ -1,6 +1,7 @@
 -- What the turns did with the store, by what serving came to.
 use Rattle.std.proofs.Common.{◌≢◌, []}
-use Rattle.lsv_load.proofs.Running.{err_any, keeps_less, loads_leave, ok_all}
+use Rattle.lsv_lane.proofs.Conforming.{keeps_less}
+use Rattle.lsv_load.proofs.Running.{err_any, loads_leave, ok_all}
 use Rattle.lsv_load.proofs.run.serve_lane.Goals as goal
 
 pub serve_conversations-served-requires-clause-lane : goal.serve_conversations-served-requires-clause-lane
@@ -14,13 +15,13 @@ returns-in-Ok-clause-ok g c =
       ran.0,
       record {
         some = tt;
-        sized = ran.2;
         timed = c.into_bay-bay.ensures.timed start ran.0 lane;
         answered = λ some. c.into_bay-bay.ensures.answered start ran.0 lane;
         entry = λ fault is. absurd (cc);
         taped = λ told. c.into_bay-bay.ensures.taped told start ran.0 lane;
         keeps = λ told. c.into_bay-bay.ensures.kept told start ran.0 lane;
       },
+      ran.2,
       ran.3,
       noted start ran.0 ran.1,
     ))
@@ -33,13 +34,13 @@ returns-in-Ok-clause-err g c =
       ran.0,
       record {
         some = tt;
-        sized = ran.2;
         timed = c.into_bay-bay.ensures.timed start ran.0 lane;
         answered = λ some. c.into_bay-bay.ensures.answered start ran.0 lane;
         entry = λ fault is. absurd (cc);
         taped = λ told. c.into_bay-bay.ensures.taped told start ran.0 lane;
         keeps = λ told. keeps_less (Unit {0}) (ran.0 ≢ []) start.set start.texts _ ran.0 (λ up. tt) (c.into_bay-bay.ensures.kept told start ran.0 lane);
       },
+      ran.2,
       loads_leave g.D.Disk.tells c.args.count ran.0 ran.3,
     ))
 
@@ -55,13 +56,13 @@ returns-in-Err-clause-err g c start made =
       ran.0,
       record {
         some = tt;
-        sized = ran.2;
         timed = c.into_bay-bay.ensures.timed start ran.0 lane;
         answered = λ some. c.into_bay-bay.ensures.answered start ran.0 lane;
         entry = λ fault is. absurd (cc);
         taped = λ told. c.into_bay-bay.ensures.taped told start ran.0 lane;
         keeps = λ told. keeps_less (Unit {0}) (ran.0 ≢ []) start.set start.texts _ ran.0 (λ up. tt) (c.into_bay-bay.ensures.kept told start ran.0 lane);
       },
+      ran.2,
       ran.3,
     )
 
