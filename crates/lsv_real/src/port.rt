@@ -29,7 +29,7 @@ use wakes::Wakes;
 
 /// The port of the operating system. All ports of a program share one listening socket, at which the first that
 /// listens begins. A turn that has nothing to tell answers `Woken` after at most 50 ms. A connection that can't be
-/// taken for want of memory or of descriptors waits, or is closed at once and is no link.
+/// taken for want of memory or of descriptors waits, or is closed at once and is no link. So is one beyond 128 of all ports.
 #[derive(Drop)]
 pub struct MioPort<N: Net + Drop> {
     /// Who reports failures of the port as a whole, and counts them.
@@ -151,13 +151,17 @@ impl<N: Net + Drop> MioPort<N> {
         }
     }
 
-    /// Takes a connection, where one waits and there are descriptors for it.
+    /// Takes a connection, where one waits and there are descriptors for it. If 128 links of all ports are open, it is closed.
     fn open(&mut self) -> Option<Ready>
         ensures turns { self.new.reports.faults ≡ self.old.reports.faults }
         ensures links { self.new.link_faults ≡ self.old.link_faults }
     {
+        let mut stream = self.wakes.as_mut()?.accept(self.door.has_room())?;
+        if self.door.is_full() {
+            self.report_turned_away(&Accepted::new(stream));
+            return None;
+        }
         let wakes = self.wakes.as_mut()?;
-        let mut stream = wakes.accept(self.door.has_room())?;
         let link = self.last.checked_add(1)?;
         // What is put is small, and is not to wait for an answer of the peer.
         let _ = stream.set_nodelay(true);

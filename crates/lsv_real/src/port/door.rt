@@ -6,6 +6,9 @@ use std::net::{Net, TcpListener};
 use std::sync::OnceLock;
 use std::sync::atomic::{AtomicU64, Ordering};
 
+/// This many clients are served at once, by all ports together.
+const MOST_LINKS: u64 = 128;
+
 /// The sockets that listen.
 #[derive(Drop)]
 pub struct Sockets {
@@ -75,6 +78,12 @@ impl Door {
     /// Whether the descriptors of this process suffice for one link more.
     pub fn has_room(&self) -> bool {
         self.open() < self.most
+    }
+
+    /// Whether as many links of all ports are open as are served at once. Two ports that ask at the same time may both be let
+    /// through.
+    pub fn is_full(&self) -> bool {
+        self.open() >= MOST_LINKS
     }
 
     /// How many links of all ports are open.
