@@ -147,12 +147,11 @@ class Log:
 class Server:
     """A store, the runs over it, and what becomes of them."""
 
-    def __init__(self, title: str, *conf: str) -> None:
-        """A new store, and lines of settings."""
+    def __init__(self, title: str) -> None:
+        """A new store."""
         ROWS.title(title)
         lines.append("server")
-        lines.extend(f"conf {line}" for line in conf)
-        self.logs: list[Log] = []
+        self.logs: dict[int, Log] = {}
         self.begin()
 
     def begin(self) -> None:
@@ -165,30 +164,39 @@ class Server:
         self.ports.append(Port(self, len(self.ports)))
         return self.ports[-1]
 
-    def run(
-        self, words: str = "serve -f conf", status: str = "0 ", serves: str | None = "*:30343 logs /var/log/sudo-io",
-        last: int | None = None, until: str = "",
-    ) -> None:
-        """The program runs on its ports. `last` is the number that it announces, by default that of the store."""
+    def new_log(self) -> int:
+        """The number of a new log."""
+        number = len(self.logs) + 1
+        self.logs[number] = Log()
+        return number
+
+    def run(self, status: str = "0 ") -> None:
+        """The loop runs on its one port, on one thread: what comes of each step is known."""
+        self.give_ports()
+        lines.append("run")
+        self.show_links()
+        self.show_rest(status)
+
+    def give_ports(self) -> None:
+        """The scripts of its ports."""
         for its in self.ports:
             lines.append("port")
             lines.extend(its.lines)
-        lines.append(f"run {words}")
-        if serves:
-            wanted.append(f"serves {serves} last {self.stored() if last is None else last}{until}")
+
+    def show_links(self) -> None:
+        """What was put on each link."""
         for its in self.ports:
             for link in its.links:
                 wanted.append(f"link {its.place}.{link.link} read {link.read}, put {short(link.put)}")
+
+    def show_rest(self, status: str) -> None:
+        """The jobs of the links, the status, and the logs."""
         for link in self.order:
             wanted.append(f"jobs {link.port.place}.{link.seq}{link.brought()}")
         wanted.append(f"status {status}")
-        for number, log in enumerate(self.logs, 1):
+        for number, log in sorted(self.logs.items()):
             wanted.append(f"log {number} {log.shown()}")
         self.begin()
-
-    def stored(self) -> int:
-        """How many logs the store had before this run."""
-        return len(self.logs) - sum(1 for port in self.ports for link in port.links if link.made)
 
 
 class Port:
@@ -237,7 +245,7 @@ class Link:
         self.read, self.put, self.frames, self.seq = 0, b"", Frames(), 0
         self.jobs: list[str] = []
         self.log: Log | None = None
-        self.made, self.is_dead = False, False
+        self.made, self.is_dead = 0, False
         self.is_open: bool = sum(other.is_open for other in port.links) < MOST_LINKS
         self.is_gone = not self.is_open
         if self.is_open:
@@ -346,9 +354,9 @@ class Link:
 
     def on_accept(self, _: Message) -> bytes:
         """A log is begun."""
-        self.log, self.made = Log(), True
-        self.server.logs.append(self.log)
-        return log_id(len(self.server.logs))
+        self.made = self.server.new_log()
+        self.log = self.server.logs[self.made]
+        return log_id(self.made)
 
     def on_ttyout(self, message: Message) -> bytes:
         """A record is staged."""
@@ -366,7 +374,7 @@ class Link:
     def on_restart(self, message: Message) -> bytes:
         """The records through the first that ends at the point stay."""
         assert message.log and message.point is not None
-        log = self.log = self.server.logs[message.log - 1]
+        log = self.log = self.server.logs[message.log]
         kept = cut_at(log.records, message.point)
         assert kept
         log.cuts += len(kept) < len(log.records)
@@ -383,15 +391,12 @@ class Link:
             self.log.flush()
 
 
-PLACES = ("[iolog]", "iolog_dir = store", "[logfile]", "path = store/events")
-STORE = "*:30343 logs store"
-
 # ---- what comes on two links, one of which brings no message
 
 
 def no_message_beside() -> None:
     """What comes on two links, one of which brings no message."""
-    server = Server("bytes that are no message, beside a session byte by byte", *PLACES)
+    server = Server("bytes that are no message, beside a session byte by byte")
     port = server.port()
     one, two = port.open(1), port.open(2)
     one.trickle(ACCEPT.frame + EXIT.frame)
@@ -401,7 +406,7 @@ def no_message_beside() -> None:
     one.last()
     two.last()
     port.stop()
-    server.run(serves=STORE)
+    server.run()
     assert wanted[-4:-1] == ["jobs 0.1 accept exit gone", "jobs 0.2 large:2097153 gone", "status 0 "]
 
     server = Server("a message of no field, one that is cut short, and messages behind an exit in one piece")
@@ -415,76 +420,14 @@ def no_message_beside() -> None:
     server.run()
 
 
-# ---- ports that fail, settings and words
+# ---- a port that fails
 
 
 def ports_that_fail() -> None:
-    """Ports that fail."""
+    """A port that fails."""
     server = Server("the first turn of the port fails")
     server.port().fail()
     server.run(status="7 port fault")
-
-    title = "a port fails while its link is open: what had come is stored, and another port is served to its end"
-    server = Server(title)
-    first, other = server.port(), server.port()
-    one, two = first.open(1), other.open(1)
-    one.give(SHORT, FIRST)
-    other.step("wake")
-    first.fail()
-    two.give(HELLO, SHORT)
-    two.give(FIRST, EXIT)
-    two.last()
-    other.stop()
-    server.run(status="7 port fault")
-
-    server = Server("two ports, step by step")
-    first, other = server.port(), server.port()
-    one, two = first.open(1), other.open(1)
-    one.give(SHORT)
-    other.step("wake")
-    first.step("wake")
-    two.give(SHORT)
-    one.give(FIRST)
-    two.give(SECOND_ONE)
-    first.stop()
-    two.give(THIRD, EXIT)
-    three = other.open(7)
-    three.give(SHORT, EXIT)
-    other.stop()
-    server.run()
-
-
-def settings_and_words() -> None:
-    """Settings and words."""
-    refused: tuple[tuple[str, tuple[str, ...], str, str], ...] = (
-        ("a line of the settings is refused",
-            ("[server]", "listen_address = *:30343", "[relay]", "store_first = maybe"), "serve -f conf",
-            "3 settings line 4"),
-        ("a word that is none", PLACES, "serve -x", "2 usage"),
-        ("no number of connections", PLACES, "serve --stop-after 0", "2 usage"),
-    )
-    for title, conf, words, status in refused:
-        server = Server(f"{title}: nothing is touched", *conf)
-        untouched(server)
-        server.run(words, status, serves=None)
-    server = Server("the settings can't be read: nothing is touched")
-    lines.append("unreadable")
-    untouched(server)
-    server.run(status="3 settings line 0", serves=None)
-
-    server = Server("where it listens, and after how many links it is to end", "; local", "[Server]",
-        "Listen_Address = *:30344")
-    server.port().stop()
-    server.run("serve --stop-after 2 -f conf", serves="*:30344 logs /var/log/sudo-io", until=" until 2")
-    server.port().stop()
-    server.run("serve --lanes 1")
-
-
-def untouched(server: Server) -> None:
-    """A port whose link would be served."""
-    port = server.port()
-    for line in ("open 1", f"give 1 {name_of(SHORT.frame)}", "stop"):
-        port.step(line)
 
 
 # ---- one fault, one connection
@@ -524,7 +467,7 @@ def one_log_fails() -> None:
     three.give(FIRST)
     three.give(EXIT)
     port.stop()
-    server.run(last=2)
+    server.run()
 
 
 # ---- many links
@@ -669,7 +612,7 @@ def stops() -> None:
     two.give(SHORT, EXIT)
     one.give(EXIT)
     port.stop()
-    server.run(last=2)
+    server.run()
 
     server = Server("Stop while more than a turn waits: all of it is stored")
     many = 3000
@@ -689,7 +632,6 @@ def main() -> None:
     """Writes all scripts."""
     no_message_beside()
     ports_that_fail()
-    settings_and_words()
     one_log_fails()
     many_links()
     takes_nothing("a turn of the port fails: it was read up to 65,536 unsent bytes", then_fails)

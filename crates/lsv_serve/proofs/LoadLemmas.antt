@@ -26,7 +26,8 @@ use Rattle.lsv_serve.specs.Program.{lines_in, machine_of, prompts_of, set_by}
 use Rattle.lsv_once.specs.World.{World}
 use Rattle.lsv_serve.proofs.ProgramLemmas.{Unread}
 use Rattle.lsv_serve.proofs.ServeLemmas.{idle_store}
-use Rattle.lsv_serve.proofs.StartLemmas.{alone_same, fit_kept, fits_after, keeps_nothing, may_serve_still}
+use Rattle.lsv_service.proofs.Idle.{keeps_nothing}
+use Rattle.lsv_serve.proofs.StartLemmas.{alone_same, fit_kept, fits_after, may_serve_still}
 
 -- ---- A disk that was only read
 
@@ -115,6 +116,7 @@ loads_unread taping view count old found tape set faults faults' status only_now
       turns = [];
       served = found;
       up = up.NoMem;
+      sized = tt;
       store = idle_store old.disk_tells taping (machine_of (set_by set)) (prompts_of (set_by set)) (view found) tape only_now;
       read = λ told. reads_nothing (view found) (only_now told);
       ends = inl refl;

@@ -18,7 +18,8 @@ use Rattle.lsv_serve.specs.Causes.{HasConfCause, HasPlaces, HasPlacesAt, MayServ
 use Rattle.lsv_serve.specs.Once.{HasProgramCause, OnceAs, OnceBy, RunsFor, status_of}
 use Rattle.lsv_serve.specs.Program.{lines_in, machine_of, prompts_of, set_by}
 use Rattle.lsv_serve.proofs.ProgramLemmas.{Unread}
-use Rattle.lsv_serve.proofs.StartLemmas.{entry_stays, keeps_nothing, may_serve_still}
+use Rattle.lsv_service.proofs.Idle.{keeps_nothing}
+use Rattle.lsv_serve.proofs.StartLemmas.{entry_stays, may_serve_still}
 
 -- ---- Settings that were read
 

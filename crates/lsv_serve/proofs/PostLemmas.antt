@@ -31,14 +31,14 @@ one_of {A} xs v i x e = go (i == length xs) refl
         let less : i < length xs = omega (arith, within, all, apart) in
         earlier less (slice_get-get_or xs i x less ∙ ap Some (sym (get_or_append_left xs (v ∷ []) x i less) ∙ get_or_from_slice_get (xs ++ v ∷ []) i x x e))
 
-module _ {T : Type 0} (number lanes : T → ℕ) (made_by : PortView → T → (ℕ → List Job) → List Reply → Type 0) (view : T → PortView) where
-  pub posts_none : ArePosts number lanes made_by view [] []
+module _ {T : Type 0} (number lanes : T → ℕ) (made_by : PortView → T → (ℕ → List Job) → List Reply → Type 0) (view : T → PortView) (many : ℕ) where
+  pub posts_none : ArePosts number lanes made_by view many [] []
   posts_none = record { count = refl; numbered = λ i post e. absurd (no_one i post e); laned = λ i post e. absurd (no_one i post e); made = λ i post e. absurd (no_one i post e); views = refl }
     where
       no_one : (i : ℕ) (post : T) → slice_get [] i ≡ Some post → ⊥
       no_one i post e = let less : i < 0 = slice_get_within [] i post e in omega (arith, less)
 
-  pub posts_more : (ports : List PortView) (posts : List T) (port : PortView) (post : T) → number post ≡ length posts → lanes post ≡ 1 → made_by port post (λ lane. []) [] → view post ≡ port → ArePosts number lanes made_by view ports posts → ArePosts number lanes made_by view (ports ++ port ∷ []) (posts ++ post ∷ [])
+  pub posts_more : (ports : List PortView) (posts : List T) (port : PortView) (post : T) → number post ≡ length posts → lanes post ≡ many → made_by port post (λ lane. []) [] → view post ≡ port → ArePosts number lanes made_by view many ports posts → ArePosts number lanes made_by view many (ports ++ port ∷ []) (posts ++ post ∷ [])
   posts_more ports posts port post numbered laned made seen are = record {
     count = length-append posts (post ∷ []) ∙ (ap (λ (n : ℕ). n + 1) are.count ∙ sym (length-append ports (port ∷ [])));
     numbered = λ i x e. elim (one_of posts post i x e) [
@@ -74,27 +74,27 @@ pub written_back : {A : Type 0} (n : ℕ) (olds news : List A) → length news �
 written_back n olds news size held = ap (λ (k : ℕ). take k (news ++ drop (length news) olds)) (sym size) ∙ take-append_seam news (drop (length news) olds)
 
 -- a port more was seated
-pub record SeatedMore {T P : Type 0} (number lanes : T → ℕ) (made_by : PortView → T → (ℕ → List Job) → List Reply → Type 0) (view : T → PortView) (port_view : P → PortView) (yielded : List P) (posts : List T) (left : List P) : Type 0 where
+pub record SeatedMore {T P : Type 0} (number lanes : T → ℕ) (made_by : PortView → T → (ℕ → List Job) → List Reply → Type 0) (view : T → PortView) (port_view : P → PortView) (many : ℕ) (yielded : List P) (posts : List T) (left : List P) : Type 0 where
   pub size : length posts + length left ≡ length yielded
   pub views : map view posts ++ map port_view left ≡ map port_view yielded
-  pub all : left ≡ [] → ArePosts number lanes made_by view (map port_view yielded) posts
+  pub all : left ≡ [] → ArePosts number lanes made_by view many (map port_view yielded) posts
 
-pub seated_more : {T P : Type 0} (number lanes : T → ℕ) (made_by : PortView → T → (ℕ → List Job) → List Reply → Type 0) (view : T → PortView) (port_view : P → PortView) (yielded : List P) (n : ℕ) (port : P) (posts posts' : List T) (left left' : List P)
-    → n ≡ length yielded → length posts + length left ≡ length yielded → map view posts ++ map port_view left ≡ map port_view yielded → (left ≡ [] → ArePosts number lanes made_by view (map port_view yielded) posts)
-    → IsSeated number lanes made_by view port_view n port posts posts' left left' → SeatedMore number lanes made_by view port_view (yielded ++ port ∷ []) posts' left'
-seated_more number lanes made_by view port_view yielded n port posts posts' left left' is_number size views are (inl b) =
+pub seated_more : {T P : Type 0} (number lanes : T → ℕ) (made_by : PortView → T → (ℕ → List Job) → List Reply → Type 0) (view : T → PortView) (port_view : P → PortView) (many : ℕ) (yielded : List P) (n : ℕ) (port : P) (posts posts' : List T) (left left' : List P)
+    → n ≡ length yielded → length posts + length left ≡ length yielded → map view posts ++ map port_view left ≡ map port_view yielded → (left ≡ [] → ArePosts number lanes made_by view many (map port_view yielded) posts)
+    → IsSeated number lanes made_by view port_view n many port posts posts' left left' → SeatedMore number lanes made_by view port_view many (yielded ++ port ∷ []) posts' left'
+seated_more number lanes made_by view port_view many yielded n port posts posts' left left' is_number size views are (inl b) =
     let none : length left ≡ 0 = ap length b.none in
     let was : map view posts ≡ map port_view yielded = sym (append-nil (map view posts)) ∙ (ap (λ (l : _). map view posts ++ map port_view l) (sym b.none) ∙ views) in
-    let more : ArePosts number lanes made_by view (map port_view (yielded ++ port ∷ [])) posts' =
-    subst (λ (ps : List PortView). ArePosts number lanes made_by view ps posts') (sym (map-append port_view yielded (port ∷ [])))
-    (subst (λ (l : List _). ArePosts number lanes made_by view (map port_view yielded ++ port_view port ∷ []) l) (sym b.last)
-    (posts_more number lanes made_by view (map port_view yielded) posts (port_view port) b.post (b.numbered ∙ (let h : n ≡ length posts = omega (arith, is_number, size, none) in h)) b.laned b.made b.seen (are b.none))) in
+    let more : ArePosts number lanes made_by view many (map port_view (yielded ++ port ∷ [])) posts' =
+    subst (λ (ps : List PortView). ArePosts number lanes made_by view many ps posts') (sym (map-append port_view yielded (port ∷ [])))
+    (subst (λ (l : List _). ArePosts number lanes made_by view many (map port_view yielded ++ port_view port ∷ []) l) (sym b.last)
+    (posts_more number lanes made_by view many (map port_view yielded) posts (port_view port) b.post (b.numbered ∙ (let h : n ≡ length posts = omega (arith, is_number, size, none) in h)) b.laned b.made b.seen (are b.none))) in
     record {
       size = let a = ap length b.last in let e = length-append posts (b.post ∷ []) in let f = length-append yielded (port ∷ []) in let z = ap length b.still in omega (arith, a, e, f, z, size, none);
       views = ap (λ (l : List _). map view posts' ++ map port_view l) b.still ∙ (append-nil (map view posts') ∙ more.views);
       all = λ still. more;
     }
-seated_more number lanes made_by view port_view yielded n port posts posts' left left' is_number size views are (inr (same, more)) = record {
+seated_more number lanes made_by view port_view many yielded n port posts posts' left left' is_number size views are (inr (same, more)) = record {
   size = let a = ap length same in let b = ap length more in let e = length-append left (port ∷ []) in let f = length-append yielded (port ∷ []) in omega (arith, a, b, e, f, size);
   views =
       ap (λ (l : List _). map view l ++ map port_view left') same ∙ ap (λ (l : List _). map view posts ++ map port_view l) more

@@ -1,43 +1,48 @@
--- A run of `serve`: its ports as posts, its links, its end, and a run that did nothing.
-use Rattle.std.proofs.Common.{◌≡◌, ◌<◌, inl, inr, [], List, ℕ, Bool, zero, suc, Option, Some, None, map, length, true, refl, sym, ap, subst, ◌∙◌, append-nil, arith}
-use Rattle.std.specs.List.{Contains}
+-- A run of `serve`: its ports as posts, its bays, its links, its end, and a run that did nothing.
+use Rattle.std.proofs.Common.{◌≡◌, ◌≤◌, ◌<◌, ◌+◌, ◌∷◌, inl, inr, [], List, ℕ, Bool, zero, suc, Option, Some, None, map, length, true, refl, sym, ap, subst, ◌∙◌, append-nil, arith}
+use Rattle.std.specs.List.{Contains, insert, remove}
 use Rattle.std.specs.Prelude.{option_map, slice_get}
+use Rattle.std.proofs.Math.ListN.{get_or, set}
 use Rattle.std.proofs.lemmas.List.{length-map}
 use Rattle.std.proofs.lemmas.Option.{get_or_from_slice_get, slice_get-get_or, slice_get-map, slice_get_within}
 use Rattle.lsv_conf.specs.Lines.{Placed, first_refused}
+use Rattle.lsv_conf.specs.Settings as conf
 use Rattle.lsv_event.specs.declared.event.Kind.{Kind}
 use Rattle.lsv_disk.specs.View.{DiskView, Image, IsCrashImage, IsLeftAlone}
+use Rattle.lsv_machine.specs.Disks.{NumbersFit}
 use Rattle.lsv_machine.specs.Machine.{Settings}
 use Rattle.lsv_turn.specs.Turns.{LaneTurn, TapeTurn, jobs_in, replies_in}
+use Rattle.lsv_keeper.specs.Reading.{reading_of}
 use Rattle.lsv_keeper.specs.declared.fault.StoreFault.{StoreFault}
-use Rattle.lsv_lane.specs.Store.{IsFresh, KeepsStore}
+use Rattle.lsv_lane.specs.Store.{IsFresh, lane_settings}
+use Rattle.lsv_lane.proofs.Conforming.{keeps_less}
 use Rattle.lsv_session.specs.declared.job.Job.{Job}
-use Rattle.lsv_session.specs.declared.reply.Reply.{Reply}
-use Rattle.lsv_links.specs.Lanes.{one_lane}
 use Rattle.lsv_links.specs.Links.{PutsPrefixes, ServesPort, ServesPorts}
-use Rattle.lsv_links.specs.Views.{PortView}
+use Rattle.lsv_links.specs.Views.{PortFailed, PortView}
 use Rattle.lsv_port.specs.Ledger.{Listening, WasAsked}
-use Rattle.lsv_reactor.specs.Served.{HasPortsEnd, ServesAll}
+use Rattle.lsv_reactor.specs.Served.{HasPortsEnd}
+use Rattle.lsv_reactor.proofs.Own.{EqOr.equal, EqOr.unequal, eq_or}
+use Rattle.lsv_reactor.proofs.Places.{set_here, set_there}
+use Rattle.lsv_reactor.specs.declared.endpoint.Endpoint
 use Rattle.lsv_reactor.specs.declared.rounds.PortsEnd.{PortsEnd}
 use Rattle.lsv_reactor.specs.declared.rounds.PortsEnd.TheVariants.{Stopped, Failed}
-use Rattle.lsv_service.specs.Runs.{HasEndCause, IsUp, ListenAt, ListenFailed, RunsStore}
-use Rattle.lsv_service.proofs.RunLemmas.{keeps_less}
-use Rattle.lsv_service.specs.Runs as posts_leave
+use Rattle.lsv_threads.specs.Served.{ServesLanes}
+use Rattle.lsv_service.specs.Lanes.{AreFreshBays, BayView, IsUnopened, KeepPlaces, LeavesLinks, RunsLanes, RunsServer}
+use Rattle.lsv_service.specs.Runs.{IsUp, ListenAt, ListenFailed, RunsStore}
+use Rattle.lsv_service.proofs.CompleteLemmas.{completes_lanes}
+use Rattle.lsv_service.proofs.Keeping.{keep_apart}
 use Rattle.lsv_service.specs.declared.run.End.{End}
 use Rattle.lsv_service.specs.declared.run.End.TheVariants as ends
 use Rattle.lsv_serve.specs.declared.status.Status.{Status}
-use Rattle.lsv_serve.specs.Causes.{HasPlaces, HasPlacesAt, MayServeAgain}
+use Rattle.lsv_serve.specs.Causes.{HasPlaces, HavePlaces, HavePlacesAt, LaneMayServe, MayServeLanes}
 use Rattle.lsv_serve.specs.InnerServe.{nothing, port_at}
-use Rattle.lsv_once.specs.Once.{once_settings}
-use Rattle.lsv_serve.specs.Program.{lines_in, listening_by, machine_of, prompts_of, set_by}
-use Rattle.lsv_service.proofs.CompleteLemmas.{completes}
-use Rattle.lsv_serve.specs.Serve.{ArePortsEnded, CompletesLinks, HasServeCause, EndsPorts, RunsAs, RunsServe, RunsTo, ServerWorld, ServesAs, told}
-use Rattle.lsv_once.specs.World.{placed}
+use Rattle.lsv_serve.specs.Program.{lines_in, listening_by, prompts_of, set_by}
+use Rattle.lsv_serve.specs.Serve.{ArePlaced, ArePortsEnded, CompletesLinks, EndsPorts, HasLaneCause, HasServeCause, KeepLanesApart, RunsAs, RunsServe, RunsTo, ServerWorld, ServesAs, kept_by, machines_of, told}
 use Rattle.lsv_serve.proofs.ProgramLemmas.{Unread}
-use Rattle.lsv_once.proofs.StoreLemmas.{keeps_placed}
-use Rattle.lsv_serve.proofs.StartLemmas.{answered_unplaced, entry_before, keeps_nothing, may_serve_again, may_serve_still, store_before, store_cause_before}
+use Rattle.lsv_service.proofs.Idle.{keeps_nothing}
+use Rattle.lsv_serve.proofs.StartLemmas.{alone_same, alone_trans, fit_kept, fits_after, fresh_after, store_cause_before}
 
--- ---- The links
+-- ---- Lists
 
 -- one of a list through a function is that of one of the list
 record Through {A B : Type 0} (f : A → B) (xs : List A) (i : ℕ) (y : B) : Type 0 where
@@ -58,8 +63,53 @@ through {A} f xs i y e = go (slice_get xs i) refl
 mapped : {A B : Type 0} (f : A → B) (xs : List A) (i : ℕ) (x : A) → slice_get xs i ≡ Some x → slice_get (map f xs) i ≡ Some (f x)
 mapped f xs i x e = slice_get-map f xs i ∙ ap (option_map f) e
 
-no_turn : (job : Job) → Contains (jobs_in []) job → ⊥
-no_turn job c = omega (arith, c.1)
+-- what stands at one place of a list is one value
+pub same_one : {A : Type 0} (xs : List A) (i : ℕ) (x y : A) → slice_get xs i ≡ Some x → slice_get xs i ≡ Some y → x ≡ y
+same_one xs i x y e f = one_of x y (sym e ∙ f)
+
+-- a list of as many has one at the same place
+there : {A : Type 0} (xs ys : List A) (i : ℕ) (x : A) → length ys ≡ length xs → slice_get xs i ≡ Some x → slice_get ys i ≡ Some (get_or ys i x)
+there xs ys i x same e = let within : i < length xs = slice_get_within xs i x e in slice_get-get_or ys i x (omega (arith, within, same))
+
+-- a list with one more at its front; and its front beside the rest
+pub inserted : {A : Type 0} (xs : List A) (x : A) → insert xs 0 x ≡ x ∷ xs
+inserted [] x = refl
+inserted (y ∷ xs) x = refl
+
+pub together : {A : Type 0} (xs ys : List A) (x : A) → 1 ≤ length xs → x ≡ get_or xs 0 x → ys ≡ remove xs 0 → x ∷ ys ≡ xs
+together [] ys x some is rest = absurd (omega (arith, some))
+together (y ∷ xs) ys x some is rest = ap (λ (a : _). a ∷ ys) is ∙ ap (λ (l : List _). y ∷ l) rest
+
+-- what is said of each of a list and of that at its place in another, where one of the other was written
+pub set_pairs : {A : Type 0} (P : ℕ → A → A → Type 0) (olds news : List A) (place : ℕ) (y : A) → place < length news → ((old : A) → slice_get olds place ≡ Some old → P place old y)
+    → ((i : ℕ) (old new : A) → slice_get olds i ≡ Some old → slice_get news i ≡ Some new → P i old new) → (i : ℕ) (old new : A) → slice_get olds i ≡ Some old → slice_get (set news place y) i ≡ Some new → P i old new
+set_pairs {A} P olds news place y less here all i old new e f = elim (eq_or i place) [
+  | equal p t ↦
+      let at : slice_get (set news place y) place ≡ Some new = subst (λ (k : ℕ). slice_get (set news place y) k ≡ Some new) p f in
+      subst (λ (k : ℕ). P k old new) (sym p) (subst (P place old) (sym (set_here news place y new at less)) (here old (subst (λ (k : ℕ). slice_get olds k ≡ Some old) p e)))
+  | unequal ne t ↦ all i old new e (set_there news place i y new ne f)
+]
+
+-- and of each below the place and of that
+pub set_below : {A : Type 0} (P : A → Type 0) (xs : List A) (place : ℕ) (y : A) → place < length xs → P y → ((i : ℕ) (x : A) → i < place → slice_get xs i ≡ Some x → P x) → (i : ℕ) (x : A) → i < place + 1 → slice_get (set xs place y) i ≡ Some x → P x
+set_below {A} P xs place y less here all i x below e = elim (eq_or i place) [
+  | equal p t ↦ subst P (sym (set_here xs place y x (subst (λ (k : ℕ). slice_get (set xs place y) k ≡ Some x) p e) less)) here
+  | unequal ne t ↦ all i x (omega (arith, below, ne)) (set_there xs place i y x ne e)
+]
+
+-- one number beside another
+data Beside (l m : ℕ) : Type 0 where
+  lower : l < m → Beside l m
+  level : l ≡ m → Beside l m
+  higher : m < l → Beside l m
+
+beside : (l m : ℕ) → Beside l m
+beside zero zero = level refl
+beside zero (suc m) = lower (omega arith)
+beside (suc l) zero = higher (omega arith)
+beside (suc l) (suc m) = elim (beside l m) [ lower h ↦ lower (omega (arith, h)) | level e ↦ level (ap suc e) | higher h ↦ higher (omega (arith, h)) ]
+
+-- ---- The links
 
 -- what posts were asked, their ports were asked
 ports_listen : {T : Type 0} (view : T → PortView) (asked : Listening) (posts posts' : List T) → ListenAt view asked posts posts' → ListenAt (λ port. port) asked (map view posts) (map view posts')
@@ -68,190 +118,286 @@ ports_listen view asked posts posts' at w before after e f =
     let u = through view posts' w after f in
     subst (λ (p : PortView). WasAsked asked (ListenFailed p after) p.ledger after.ledger) t.is (subst (λ (p : PortView). WasAsked asked (ListenFailed (view t.x) p) (view t.x).ledger p.ledger) u.is (at w t.x u.x t.at u.at))
 
--- posts that served ports, from a world to another
-module _ {T : Type 0} (view : T → PortView) (old new : ServerWorld) (posts : List T) (turns : List LaneTurn) (same : length posts ≡ length old.ports) (is : map view posts ≡ new.ports) where
+-- posts that served ports, from a world to another. starts: from where they began, which are the ports of the first
+module _ {T X : Type 0} (words : Endpoint.Ghosts T) (starts : ℕ → words.Start) (lanes : ℕ) (old new : ServerWorld X) (posts : List T) (turns : ℕ → List LaneTurn) (tells : old.ports_tell → words.tells) (begun : (w : ℕ) → words.begun (starts w) ≡ port_at old.ports w)
+    (same : length posts ≡ length old.ports) (is : map words.view posts ≡ new.ports) where
   abbrev Served : ℕ → PortView → PortView → Type 0
-  Served w before after = ServesPort (λ lane. old.disk_tells) 1 w (λ lane. jobs_in (one_lane lane turns)) (λ lane. replies_in (one_lane lane turns)) before after
+  Served w before after = ServesPort (λ l. old.disk_tells) lanes w (λ l. jobs_in (turns l)) (λ l. replies_in (turns l)) before after
 
   abbrev Put : ℕ → PortView → PortView → Type 0
-  Put w before after = PutsPrefixes w (λ lane. jobs_in (one_lane lane turns)) (λ lane. replies_in (one_lane lane turns)) before after
+  Put w before after = PutsPrefixes w (λ l. jobs_in (turns l)) (λ l. replies_in (turns l)) before after
 
   counted : length new.ports ≡ length old.ports
-  counted = ap length (sym is) ∙ length-map posts view ∙ same
+  counted = ap length (sym is) ∙ length-map posts words.view ∙ same
 
-  -- what is said of each post and of the port at its place before, is said of the ports
-  each_port : (Holds : ℕ → PortView → PortView → Type 0) → ((i : ℕ) (post : T) → slice_get posts i ≡ Some post → Holds i (port_at old.ports i) (view post))
+  -- what is said of each post and of where it began, is said of the ports
+  each_port : (Holds : ℕ → PortView → PortView → Type 0) → ((i : ℕ) (post : T) → slice_get posts i ≡ Some post → Holds i (words.begun (starts i)) (words.view post))
       → (w : ℕ) (before after : PortView) → slice_get old.ports w ≡ Some before → slice_get new.ports w ≡ Some after → Holds w before after
   each_port Holds each w before after e f =
-      let t : Through view posts w after = through view posts w after (subst (λ (ports : List PortView). slice_get ports w ≡ Some after) (sym is) f) in
-      let at : port_at old.ports w ≡ before = get_or_from_slice_get old.ports w before nothing e in
-      subst (λ (p : PortView). Holds w before p) t.is (subst (λ (p : PortView). Holds w p (view t.x)) at (each w t.x t.at))
+      let t : Through words.view posts w after = through words.view posts w after (subst (λ (ports : List PortView). slice_get ports w ≡ Some after) (sym is) f) in
+      let at : words.begun (starts w) ≡ before = begun w ∙ get_or_from_slice_get old.ports w before nothing e in
+      subst (λ (p : PortView). Holds w before p) t.is (subst (λ (p : PortView). Holds w p (words.view t.x)) at (each w t.x t.at))
 
   -- each job is of the worker of a port
-  of_ports : ((job : Job) → Contains (jobs_in turns) job → job.conn.worker < length posts) → (job : Job) → Contains (jobs_in turns) job → job.conn.worker < length old.ports
-  of_ports within job c = let less : job.conn.worker < length posts = within job c in subst (λ (n : ℕ). job.conn.worker < n) same less
+  of_ports : ((l : ℕ) (job : Job) → Contains (jobs_in (turns l)) job → job.conn.worker < length posts) → (l : ℕ) (job : Job) → Contains (jobs_in (turns l)) job → job.conn.worker < length old.ports
+  of_ports within l job c = let less : job.conn.worker < length posts = within l job c in subst (λ (n : ℕ). job.conn.worker < n) same less
 
-  of_lanes : ((job : Job) → Contains (jobs_in turns) job → job.conn.worker < length posts) → (m : ℕ) (job : Job) → Contains (jobs_in (one_lane m turns)) job → job.conn.worker < length old.ports
-  of_lanes within zero job c = of_ports within job c
-  of_lanes within (suc m) job c = absurd (no_turn job c)
-
-  ended_so : (end : PortsEnd) → HasPortsEnd old.ports_tell (λ start. start) view (port_at old.ports) posts end → ArePortsEnded old.ports_tell old.ports new.ports end
+  ended_so : (end : PortsEnd) → HasPortsEnd words.tells words.begun words.view starts posts end → ArePortsEnded old.ports_tell old.ports new.ports end
   ended_so Stopped stopped = λ told i port e.
-      let t : Through view posts i port = through view posts i port (subst (λ (ports : List PortView). slice_get ports i ≡ Some port) (sym is) e) in
-      subst (λ (p : PortView). p.state.stopped ≡ true) t.is (stopped told i t.x t.at)
+      let t : Through words.view posts i port = through words.view posts i port (subst (λ (ports : List PortView). slice_get ports i ≡ Some port) (sym is) e) in
+      subst (λ (p : PortView). p.state.stopped ≡ true) t.is (stopped (tells told) i t.x t.at)
   ended_so Failed (i, (post, at, failed)) =
       let less : i < length old.ports = subst (λ (n : ℕ). i < n) same (slice_get_within posts i post at) in
-      (i, (port_at old.ports i, view post, slice_get-get_or old.ports i nothing less, subst (λ (ports : List PortView). slice_get ports i ≡ Some (view post)) is (mapped view posts i post at), failed))
+      let since : PortFailed (port_at old.ports i) (words.view post) = subst (λ (p : PortView). PortFailed p (words.view post)) (begun i) failed in
+      (i, (port_at old.ports i, words.view post, slice_get-get_or old.ports i nothing less, subst (λ (ports : List PortView). slice_get ports i ≡ Some (words.view post)) is (mapped words.view posts i post at), since))
 
-  served_ports : (made_by : PortView → T → (ℕ → List Job) → List Reply → Type 0) (called : T → List (List Job) → Type 0) (end : PortsEnd) → ServesAll old.ports_tell old.disk_tells made_by called (λ start. start) view (port_at old.ports) posts turns end
-      → old.ports_tell → ServesPorts (λ lane. old.disk_tells) 1 (λ lane. one_lane lane turns) old.ports new.ports
-  served_ports made_by called end s told = record { count = counted; each = each_port Served (s.each told); known = of_lanes s.within }
+  served_ports : (end : PortsEnd) → ServesLanes words old.disk_tells lanes starts posts turns end → old.ports_tell → ServesPorts (λ l. old.disk_tells) lanes turns old.ports new.ports
+  served_ports end s told = record { count = counted; each = each_port Served (s.each (tells told)); known = of_ports s.within }
 
   -- how they leave the ports. before: the posts as they were
-  module _ (asked : Listening) (before : List T) (was : map view before ≡ old.ports) where
-    listened : ListenAt view asked before posts → ListenAt (λ port. port) asked old.ports new.ports
+  module _ (asked : Listening) (before : List T) (was : map words.view before ≡ old.ports) where
+    listened : ListenAt words.view asked before posts → ListenAt (λ port. port) asked old.ports new.ports
     listened at =
         subst (λ (ports : List PortView). ListenAt (λ port. port) asked ports new.ports) was
-        (subst (λ (ports : List PortView). ListenAt (λ port. port) asked (map view before) ports) is (ports_listen view asked before posts at))
+        (subst (λ (ports : List PortView). ListenAt (λ port. port) asked (map words.view before) ports) is (ports_listen words.view asked before posts at))
 
     untouched : posts ≡ before → new.ports ≡ old.ports
-    untouched e = sym is ∙ ap (map view) e ∙ was
+    untouched e = sym is ∙ ap (map words.view) e ∙ was
 
-    pub leaves_ports : (made_by : PortView → T → (ℕ → List Job) → List Reply → Type 0) (called : T → List (List Job) → Type 0) (end : End) → ((ports : PortsEnd) → end ≡ ends.Over ports → ServesAll old.ports_tell old.disk_tells made_by called (λ start. start) view (port_at old.ports) posts turns ports)
-        → posts_leave.LeavesPorts old.ports_tell (λ start. start) view (port_at old.ports) asked before posts turns end → ((fault : StoreFault) → end ≡ ends.Store fault → new.tape ≡ old.tape) → EndsPorts asked old new turns end
-    leaves_ports made_by called (ends.Over ports) all left tape = record { listens = λ told. listened (left told); served = served_ports made_by called ports (all ports refl); ended = ended_so ports (all ports refl).ended }
-    leaves_ports made_by called (ends.Store fault) all left tape = (untouched left, tape fault refl)
-    leaves_ports made_by called ends.NoMem all (inl (none, e)) tape = inl (record { none = none; ports = untouched e })
-    leaves_ports made_by called ends.NoMem all (inr (at, put)) tape = inr (record { listens = λ told. listened (at told); served = λ told. record { count = counted; each = each_port Put (put.each told); known = of_ports put.within } })
+    pub leaves_ports : (end : End) → LeavesLinks words old.disk_tells lanes starts asked before posts turns end → EndsPorts lanes asked old new turns end
+    leaves_ports (ends.Over ports) (at, all) = record { listens = λ told. listened (at (tells told)); served = served_ports ports all; ended = ended_so ports all.ended }
+    leaves_ports (ends.Store fault) e = untouched e
+    leaves_ports ends.NoMem (inl (none, e)) = inl (record { none = none; ports = untouched e })
+    leaves_ports ends.NoMem (inr (at, put)) = inr (record { listens = λ told. listened (at (tells told)); served = λ told. record { count = counted; each = each_port Put (put.each (tells told)); known = of_ports put.within } })
+
+-- ---- The bays
+
+module _ {X : Type 0} (view : X → BayView) where
+  pub bays_same : (told : Type 0) (bays : List X) → ArePlaced view told bays bays
+  bays_same told bays = record {
+    count = refl;
+    alone = λ l old new e f. subst (λ (b : X). IsLeftAlone told (view old).disk (view b).disk) (same_one bays l old new e f) (alone_same told (view old).disk);
+    tape = λ l old new e f. ap (λ (b : X). (view b).tape) (sym (same_one bays l old new e f));
+  }
+
+  placed_trans : (told : Type 0) (olds mids news : List X) → ArePlaced view told olds mids → ArePlaced view told mids news → ArePlaced view told olds news
+  placed_trans told olds mids news first second = record {
+    count = second.count ∙ first.count;
+    alone = λ l old new e f.
+        let at = there olds mids l old first.count e in
+        let mid : X = get_or mids l old in
+        alone_trans told (view old).disk (view mid).disk (view new).disk (first.alone l old mid e at) (second.alone l mid new at f);
+    tape = λ l old new e f.
+        let at = there olds mids l old first.count e in
+        let mid : X = get_or mids l old in
+        second.tape l mid new at f ∙ first.tape l old mid e at;
+  }
+
+  -- bays whose disks may serve may do so when these have other places
+  pub fresh_placed : (told : Type 0) (lanes : ℕ) (olds news : List X) → told → ArePlaced view told olds news → AreFreshBays view lanes olds → AreFreshBays view lanes news
+  fresh_placed told lanes olds news tells placed fresh l new below is =
+      let at = there news olds l new (sym placed.count) is in
+      let old : X = get_or olds l new in
+      fresh_after (view old).disk (view new).disk ((placed.alone l old new at is).untouched tells) l lanes (fresh l old below at)
+
+  -- and that of the first of them
+  pub first_fresh : (bays : List X) (bay : X) → slice_get bays 0 ≡ Some bay → AreFreshBays view 1 bays → IsFresh 0 1 (view bay).disk
+  first_fresh bays bay at fresh = fresh 0 bay (omega arith) at
+
+  -- the bays of a run keep the places that they were given
+  pub places_kept : (logs events : List ℕ) (olds news : List X) → length news ≡ length olds → KeepPlaces view olds news → HavePlaces view logs events olds → HavePlaces view logs events news
+  places_kept logs events olds news count keep have l new is =
+      let at = there news olds l new (sym count) is in
+      let old : X = get_or olds l new in
+      let kept = keep l old new at is in
+      elim (have l old at) [ inl given ↦ inl (kept ∙ given) | inr none ↦ inr (kept ∙ none) ]
+
+  pub places_same : (bays : List X) → KeepPlaces view bays bays
+  places_same bays l old new e f = ap (λ (b : X). (view b).disk.places) (sym (same_one bays l old new e f))
 
 -- ---- A run that did nothing
 
-pub idle_keeps : (disk : DiskView) → ((image : Image) → disk.crash_images_at disk.moment image → IsCrashImage disk image) → (opened : Type 0) (set : Settings) (texts : List (List ℕ)) → (opened → ⊥) → KeepsStore opened set texts (record { found = disk; left = disk }) []
-idle_keeps disk only_now opened set texts not = keeps_less ⊥ opened set texts (record { found = disk; left = disk }) [] not (keeps_nothing disk only_now set texts)
-
+-- a store of any number of lanes that wasn't opened, since nothing was done
 pub idle_store : (tells taping : Type 0) (set : Settings) (texts : List (List ℕ)) (disk : DiskView) (tape : List TapeTurn) → (tells → (image : Image) → disk.crash_images_at disk.moment image → IsCrashImage disk image)
     → RunsStore tells taping set texts disk disk tape tape ends.NoMem []
 idle_store tells taping set texts disk tape only_now = record {
   some = tt;
-  sized = tt;
   timed = tt;
   answered = λ some. absurd (some refl);
   entry = λ fault e. absurd (cc);
   taped = λ told. sym (append-nil tape);
-  keeps = λ told. idle_keeps disk (only_now told) (IsUp ends.NoMem []) set texts (λ up. up refl);
+  keeps = λ told. keeps_less ⊥ (IsUp ends.NoMem []) set texts (record { found = disk; left = disk }) [] (λ up. up refl) (keeps_nothing disk (only_now told) set texts);
 }
 
--- what a run did with the store from a disk that has its places
-pub store_placed : (tells taping : Type 0) (set : Settings) (texts : List (List ℕ)) (found left : DiskView) (tape tape' : List TapeTurn) (end : End) (turns : List LaneTurn) → (tells → left.places ≡ found.places)
-    → RunsStore tells taping set texts found left tape tape' end turns → RunsStore tells taping set texts (placed found left) left tape tape' end turns
-store_placed tells taping set texts found left tape tape' end turns places r = record {
-  some = r.some;
-  sized = r.sized;
-  timed = r.timed;
-  answered = r.answered;
-  entry = λ fault e told some. let k = r.entry fault e told some in record { moments = k.moments; reads = k.reads };
-  taped = r.taped;
-  keeps = λ told. keeps_placed (IsUp end turns) set texts found left turns (places told) (r.keeps told);
-}
-
--- and from the disk before it was given them
-store_unplaced : (tells taping : Type 0) (set : Settings) (texts : List (List ℕ)) (found after left : DiskView) (tape tape' : List TapeTurn) (end : End) (turns : List LaneTurn) → IsLeftAlone tells found after
-    → RunsStore tells taping set texts (placed after left) left tape tape' end turns → RunsStore tells taping set texts (placed found left) left tape tape' end turns
-store_unplaced tells taping set texts found after left tape tape' end turns alone r = record {
-  some = r.some;
-  sized = r.sized;
-  timed = r.timed;
-  answered = λ some. answered_unplaced tells found after alone left.faults set.log_exit turns (r.answered some);
-  entry = λ fault e told some.
-      let k = entry_before found after (alone.untouched told) left (λ there. let x = r.entry fault e told there in record { moments = x.moments; reads = x.reads }) some in
-      record { moments = k.moments; reads = k.reads };
-  taped = r.taped;
-  keeps = λ told. store_before tells found after alone (IsUp end turns) set texts left turns told (r.keeps told);
+idle_lanes : {X : Type 0} (view : X → BayView) (tells taping : Type 0) (set : ℕ → Settings) (texts : List (List ℕ)) (lanes : ℕ) (bays : List X) → (tells → (bay : X) (image : Image) → (view bay).disk.crash_images_at (view bay).disk.moment image → IsCrashImage (view bay).disk image)
+    → RunsLanes view tells taping set texts lanes bays bays ends.NoMem (λ l. [])
+idle_lanes {X} view tells taping set texts lanes bays only_now = record {
+  count = refl;
+  opened = 0;
+  some = omega arith;
+  past = λ l beyond. refl;
+  idle = λ unopened l. refl;
+  taken = λ l. (record { words = 0; slots = 0; views_name = 0; atom = 0; block = 0; offset = 0; slot_names = [] }, tt);
+  kept = λ l found left below. absurd (omega (arith, below));
+  unopened = λ found left below was is.
+      subst (λ (b : X). IsUnopened tells taping (set 0) texts 0 lanes (view found) (view b) ends.NoMem) (same_one bays 0 found left was is)
+      (record { run = idle_store tells taping (set 0) texts (view found).disk (view found).tape (λ told. only_now told found); cause = λ fault e. absurd (cc); tape = λ fault e. absurd (cc) });
+  beside = λ l found left apart was is. same_one bays l left found is was;
 }
 
 -- memory ran out before anything was done, and the ports are as they were
-pub idle_run : (set : Settings) (texts : List (List ℕ)) (asked : Listening) (old : ServerWorld) (ports : List PortView) → (old.disk_tells → (image : Image) → old.disk.crash_images_at old.disk.moment image → IsCrashImage old.disk image)
-    → ports ≡ old.ports → RunsTo set texts asked old (record old { ports = ports }) ends.NoMem
-idle_run set texts asked old ports only_now same = record {
-  turns = [];
-  store = store_placed old.disk_tells old.tape_tells set texts old.disk old.disk old.tape old.tape ends.NoMem [] (λ told. refl) (idle_store old.disk_tells old.tape_tells set texts old.disk old.tape only_now);
-  links = inl (record { none = refl; ports = same });
+pub idle_run : {X : Type 0} (set : ℕ → Settings) (texts : List (List ℕ)) (lanes : ℕ) (asked : Listening) (old : ServerWorld X) (ports : List PortView) → (old.disk_tells → (bay : X) (image : Image) → (old.view bay).disk.crash_images_at (old.view bay).disk.moment image → IsCrashImage (old.view bay).disk image)
+    → ports ≡ old.ports → RunsTo set texts lanes asked old (record old { ports = ports }) ends.NoMem
+idle_run set texts lanes asked old ports only_now same = record {
+  turns = λ l. [];
+  placed = old.bays;
+  are_placed = bays_same old.view old.disk_tells old.bays;
+  stores = idle_lanes old.view old.disk_tells old.tape_tells set texts lanes old.bays only_now;
+  links = inl (record { none = λ l. refl; ports = same });
 }
 
 -- ---- Its end
 
--- what is said of a run from the disk with its places, is said of it from the disk before
-pub run_before : (set : Settings) (texts : List (List ℕ)) (asked : Listening) (old new : ServerWorld) (after : DiskView) (end : End) → IsLeftAlone old.disk_tells old.disk after → RunsTo set texts asked (record old { disk = after }) new end → RunsTo set texts asked old new end
-run_before set texts asked old new after end alone r = record {
+-- what lsv_service says of a run, is said of the ports and the bays. before, posts: the ports as posts, before the run and after it
+pub runs_to : {T X : Type 0} {words : Endpoint.Ghosts T} {starts : ℕ → words.Start} (set : ℕ → Settings) (texts : List (List ℕ)) (lanes : ℕ) (asked : Listening) (old new : ServerWorld X) (before posts : List T) (end : End)
+    → RunsServer words old.view old.disk_tells old.tape_tells set texts lanes starts asked before posts old.bays new.bays end → (old.ports_tell → words.tells) → ((w : ℕ) → words.begun (starts w) ≡ port_at old.ports w)
+    → map words.view before ≡ old.ports → map words.view posts ≡ new.ports → RunsTo set texts lanes asked old new end
+runs_to {words = words} {starts = starts} set texts lanes asked old new before posts end r tells begun was is = record {
   turns = r.turns;
-  store = store_unplaced old.disk_tells old.tape_tells set texts old.disk after new.disk old.tape new.tape end r.turns alone r.store;
+  placed = old.bays;
+  are_placed = bays_same old.view old.disk_tells old.bays;
+  stores = r.stores;
+  links = leaves_ports words starts lanes old new posts r.turns tells begun (r.count ∙ (sym (length-map before words.view) ∙ ap length was)) is asked before was end r.links;
+}
+
+-- what is said of a run from the bays with their places, is said of it from the bays before
+pub run_before : {X : Type 0} (set : ℕ → Settings) (texts : List (List ℕ)) (lanes : ℕ) (asked : Listening) (old new : ServerWorld X) (bays : List X) (end : End) → ArePlaced old.view old.disk_tells old.bays bays → RunsTo set texts lanes asked (record old { bays = bays }) new end → RunsTo set texts lanes asked old new end
+run_before set texts lanes asked old new bays end placed r = record {
+  turns = r.turns;
+  placed = r.placed;
+  are_placed = placed_trans old.view old.disk_tells old.bays bays r.placed placed r.are_placed;
+  stores = r.stores;
   links = left end r.links;
 }
   where
-    left : (how : End) → EndsPorts asked (record old { disk = after }) new r.turns how → EndsPorts asked old new r.turns how
+    left : (how : End) → EndsPorts lanes asked (record old { bays = bays }) new r.turns how → EndsPorts lanes asked old new r.turns how
     left (ends.Over ports) l = record { listens = l.listens; served = l.served; ended = l.ended }
     left (ends.Store fault) l = l
     left ends.NoMem (inl n) = inl (record { none = n.none; ports = n.ports })
     left ends.NoMem (inr b) = inr (record { listens = b.listens; served = λ told. let s = b.served told in record { count = s.count; each = s.each; known = s.known } })
 
-pub end_before : (tells : Type 0) (found after left : DiskView) (end : End) → IsLeftAlone tells found after → HasEndCause tells after left end → HasEndCause tells found left end
-end_before tells found after left (ends.Over ports) alone c = c
-end_before tells found after left (ends.Store fault) alone c = store_cause_before tells found after alone left fault c
-end_before tells found after left ends.NoMem alone c = c
+module _ {X : Type 0} (set : ℕ → Settings) (texts : List (List ℕ)) (lanes : ℕ) (asked : Listening) (old new : ServerWorld X) where
+  -- the store of one of the lanes wasn't opened for a cause
+  lane_cause : (end : End) → RunsTo set texts lanes asked old new end → (fault : StoreFault) → end ≡ ends.Store fault → HasLaneCause lanes old new fault
+  lane_cause (ends.Over ports) r fault e = absurd (cc)
+  lane_cause ends.NoMem r fault e = absurd (cc)
+  lane_cause (ends.Store other) r fault e = record {
+    lane = r.stores.opened;
+    is_one = r.stores.some;
+    cause = λ found left was is.
+        let at = there old.bays r.placed r.stores.opened found r.are_placed.count was in
+        let mid : X = get_or r.placed r.stores.opened found in
+        store_cause_before old.disk_tells (old.view found).disk (old.view mid).disk (r.are_placed.alone r.stores.opened found mid was at) r.stores.opened lanes (old.view left).disk fault ((r.stores.unopened mid left r.stores.some at is).cause fault e);
+  }
 
-runs_told : (set : Settings) (texts : List (List ℕ)) (asked : Listening) (old new : ServerWorld) (end : End) → RunsTo set texts asked old new end → RunsServe set texts asked old new (told end)
-runs_told set texts asked old new (ends.Over Stopped) r = r
-runs_told set texts asked old new (ends.Over Failed) r = r
-runs_told set texts asked old new (ends.Store fault) r = r
-runs_told set texts asked old new ends.NoMem r = r
+  pub complete_links : CompletesLinks set texts lanes asked old new
+  complete_links ports run told ports_told worker before after was is =
+      completes_lanes old.disk_tells told old.view set texts lanes run.stores.opened run.placed new.bays run.turns (kept_by run told) worker before after ((run.links.served ports_told).each worker before after was is)
 
-cause_told : (lines : List Placed) (faults faults' : ℕ) (old new : ServerWorld) (end : End) → first_refused lines ≡ None → HasEndCause old.disk_tells old.disk new.disk end → HasServeCause lines faults faults' old new (told end)
-cause_told lines faults faults' old new (ends.Over Stopped) none c = none
-cause_told lines faults faults' old new (ends.Over Failed) none c = none
-cause_told lines faults faults' old new (ends.Store fault) none c = (none, c)
-cause_told lines faults faults' old new ends.NoMem none c = tt
+  pub runs_as : (end : End) (status : Status) → status ≡ told end → RunsTo set texts lanes asked old new end → KeepLanesApart set texts lanes asked old new → RunsAs set texts lanes asked old new status
+  runs_as end status is run apart = record { end = end; is = is; run = run; cause = lane_cause end run; complete = complete_links; apart = apart }
 
-places_told : (logs events : List ℕ) (before after : DiskView) (end : End) → HasPlaces logs events after → HasPlacesAt logs events before after (told end)
-places_told logs events before after (ends.Over Stopped) p = p
-places_told logs events before after (ends.Over Failed) p = p
-places_told logs events before after (ends.Store fault) p = p
-places_told logs events before after ends.NoMem p = inl p
+  runs_told : (end : End) → RunsTo set texts lanes asked old new end → RunsServe set texts lanes asked old new (told end)
+  runs_told (ends.Over Stopped) r = r
+  runs_told (ends.Over Failed) r = r
+  runs_told (ends.Store fault) r = r
+  runs_told ends.NoMem r = r
 
-pub complete_links : (set : Settings) (texts : List (List ℕ)) (asked : Listening) (old new : ServerWorld) → CompletesLinks set texts asked old new
-complete_links set texts asked old new ports run told ports_told worker before after was is =
-    completes old.disk_tells told set texts (placed old.disk new.disk) new.disk run.turns (run.store.keeps told) worker before after ((run.links.served ports_told).each worker before after was is)
+pub apart_lanes : {X : Type 0} (kind : Kind) (log_exit : Bool) (texts : List (List ℕ)) (lanes : ℕ) (asked : Listening) (old new : ServerWorld X) → KeepLanesApart (λ l. lane_settings l lanes kind log_exit) texts lanes asked old new
+apart_lanes kind log_exit texts lanes asked old new ports run told ports_told =
+    keep_apart old.disk_tells old.tape_tells told old.view kind log_exit texts lanes run.placed new.bays ports run.turns run.stores old.ports new.ports (run.links.served ports_told)
 
--- the next run may begin with the disk
-pub serves_again : (kind : Kind) (log_exit : Bool) (texts : List (List ℕ)) (asked : Listening) (old new : ServerWorld) (end : End) → old.disk_tells → ((image : Image) → IsCrashImage new.disk image → new.disk.crash_images_at new.disk.moment image) → IsFresh 0 1 new.disk
-    → RunsTo (once_settings kind log_exit) texts asked old new end → MayServeAgain old.disk new.disk
-serves_again kind log_exit texts asked old new end tells is_now fresh run = may_serve_again (IsUp end run.turns) kind log_exit texts old.disk new.disk run.turns (run.store.keeps tells) is_now fresh
+cause_told : {X : Type 0} (lines : List Placed) (faults faults' lanes : ℕ) (old new : ServerWorld X) (end : End) → first_refused lines ≡ None → ((fault : StoreFault) → end ≡ ends.Store fault → HasLaneCause lanes old new fault) → HasServeCause lines faults faults' lanes old new (told end)
+cause_told lines faults faults' lanes old new (ends.Over Stopped) none c = none
+cause_told lines faults faults' lanes old new (ends.Over Failed) none c = none
+cause_told lines faults faults' lanes old new (ends.Store fault) none c = (none, c fault refl)
+cause_told lines faults faults' lanes old new ends.NoMem none c = tt
+
+pub places_told : {X : Type 0} (view : X → BayView) (logs events : List ℕ) (olds news : List X) (end : End) → HavePlaces view logs events news → HavePlacesAt view logs events olds news (told end)
+places_told view logs events olds news (ends.Over Stopped) have l old new was is = have l new is
+places_told view logs events olds news (ends.Over Failed) have l old new was is = have l new is
+places_told view logs events olds news (ends.Store fault) have l old new was is = have l new is
+places_told view logs events olds news ends.NoMem have l old new was is = inl (have l new is)
+
+-- the next run may begin with the disks
+module _ {X : Type 0} (kind : Kind) (log_exit : Bool) (texts : List (List ℕ)) (lanes : ℕ) (asked : Listening) (old new : ServerWorld X) (end : End) (tells : old.disk_tells)
+    (is_now : (bay : X) (image : Image) → IsCrashImage (old.view bay).disk image → (old.view bay).disk.crash_images_at (old.view bay).disk.moment image) (run : RunsTo (λ l. lane_settings l lanes kind log_exit) texts lanes asked old new end) where
+  -- the numbers of a lane fit after the run, by whether its store was opened
+  fit_lane : (l : ℕ) (mid left : X) → l < lanes → slice_get run.placed l ≡ Some mid → slice_get new.bays l ≡ Some left → Beside l run.stores.opened
+      → NumbersFit (reading_of l lanes) l lanes (IsCrashImage (old.view mid).disk) → NumbersFit (reading_of l lanes) l lanes (IsCrashImage (old.view left).disk)
+  fit_lane l mid left below was is (lower less) fit = fit_kept _ (lane_settings l lanes kind log_exit) texts (old.view mid).disk (old.view left).disk (run.turns l) ((run.stores.kept l mid left less was is).keeps tells) (is_now left) fit
+  fit_lane l mid left below was is (level e) fit =
+      let here : run.stores.opened < lanes = omega (arith, below, e) in
+      let was_here : slice_get run.placed run.stores.opened ≡ Some mid = subst (λ (n : ℕ). slice_get run.placed n ≡ Some mid) e was in
+      let is_here : slice_get new.bays run.stores.opened ≡ Some left = subst (λ (n : ℕ). slice_get new.bays n ≡ Some left) e is in
+      let kept = (run.stores.unopened mid left here was_here is_here).run.keeps tells in
+      let moved : NumbersFit (reading_of run.stores.opened lanes) run.stores.opened lanes (IsCrashImage (old.view mid).disk) = subst (λ (n : ℕ). NumbersFit (reading_of n lanes) n lanes (IsCrashImage (old.view mid).disk)) e fit in
+      let after : NumbersFit (reading_of run.stores.opened lanes) run.stores.opened lanes (IsCrashImage (old.view left).disk) = fit_kept _ (lane_settings run.stores.opened lanes kind log_exit) texts (old.view mid).disk (old.view left).disk [] kept (is_now left) moved in
+      subst (λ (n : ℕ). NumbersFit (reading_of n lanes) n lanes (IsCrashImage (old.view left).disk)) (sym e) after
+  fit_lane l mid left below was is (higher more) fit = subst (λ (b : X). NumbersFit (reading_of l lanes) l lanes (IsCrashImage (old.view b).disk)) (sym (run.stores.beside l mid left (inl more) was is)) fit
+
+  pub serves_again : AreFreshBays old.view lanes new.bays → MayServeLanes old.view lanes old.bays new.bays
+  serves_again fresh l found left below was is =
+      let at = there old.bays run.placed l found run.are_placed.count was in
+      let mid : X = get_or run.placed l found in
+      record {
+        fresh = λ it. fresh l left below is;
+        fits = λ fit. fit_lane l mid left below at is (beside l run.stores.opened) (fits_after (old.view found).disk (old.view mid).disk ((run.are_placed.alone l found mid was at).untouched tells) (reading_of l lanes) l lanes fit);
+      }
+
+pub may_serve_same : {X : Type 0} (view : X → BayView) (lanes : ℕ) (bays : List X) → MayServeLanes view lanes bays bays
+may_serve_same {X} view lanes bays l old new below was is = subst (λ (b : X). LaneMayServe l lanes (view old).disk (view b).disk) (same_one bays l old new was is) (record { fresh = λ it. it; fits = λ fit. fit })
+
+-- what is said of a run by its options, is said of it by the settings that they are of
+pub runs_set : {X : Type 0} (set : conf.Settings) (lanes : ℕ) (stop_after : Option ℕ) (old new : ServerWorld X) (status : Status) (form : Kind) (log_exit : Bool) (prompts : List (List ℕ)) (listen : List ℕ) → form ≡ set.format → log_exit ≡ set.log_exit → prompts ≡ prompts_of set → listen ≡ set.listen
+    → RunsAs (λ l. lane_settings l lanes form log_exit) prompts lanes (record { address = listen; stop_after = stop_after }) old new status → RunsAs (machines_of set lanes) (prompts_of set) lanes (listening_by set stop_after) old new status
+runs_set set lanes stop_after old new status form log_exit prompts listen f e p a r =
+    subst (λ (k : Kind). RunsAs (λ (l : ℕ). lane_settings l lanes k set.log_exit) (prompts_of set) lanes (listening_by set stop_after) old new status) f
+    (subst (λ (b : Bool). RunsAs (λ (l : ℕ). lane_settings l lanes form b) (prompts_of set) lanes (listening_by set stop_after) old new status) e
+    (subst (λ (t : List (List ℕ)). RunsAs (λ (l : ℕ). lane_settings l lanes form log_exit) t lanes (listening_by set stop_after) old new status) p
+    (subst (λ (address : List ℕ). RunsAs (λ (l : ℕ). lane_settings l lanes form log_exit) prompts lanes (record { address = address; stop_after = stop_after }) old new status) a r)))
 
 -- a run whose settings were read
-pub serves_read : (stop_after : Option ℕ) (found : Option (List ℕ)) (faults faults' : ℕ) (old new : ServerWorld) (status : Status) → first_refused (lines_in found) ≡ None → RunsAs (machine_of (set_by found)) (prompts_of (set_by found)) (listening_by (set_by found) stop_after) old new status
-    → (old.disk_tells → HasPlaces (set_by found).iolog_dir (set_by found).path new.disk) → (old.disk_tells → MayServeAgain old.disk new.disk) → ServesAs stop_after found faults faults' old new status
-serves_read stop_after found faults faults' old new status none r places again =
-    subst (ServesAs stop_after found faults faults' old new) (sym r.is) (record {
-      runs = runs_told (machine_of (set_by found)) (prompts_of (set_by found)) (listening_by (set_by found) stop_after) old new r.end r.run;
-      cause = cause_told (lines_in found) faults faults' old new r.end none r.cause;
-      complete = r.complete;
-      places = λ tells. places_told (set_by found).iolog_dir (set_by found).path old.disk new.disk r.end (places tells);
-      again = again;
-    })
+pub serves_read : {X : Type 0} (lanes : ℕ) (stop_after : Option ℕ) (found : Option (List ℕ)) (faults faults' : ℕ) (old new : ServerWorld X) (status : Status) → first_refused (lines_in found) ≡ None
+    → RunsAs (machines_of (set_by found) lanes) (prompts_of (set_by found)) lanes (listening_by (set_by found) stop_after) old new status → (old.disk_tells → HavePlacesAt old.view (set_by found).iolog_dir (set_by found).path old.bays new.bays status)
+    → (old.disk_tells → MayServeLanes old.view lanes old.bays new.bays) → ServesAs lanes stop_after found faults faults' old new status
+serves_read lanes stop_after found faults faults' old new status none r places again = record {
+  runs = subst (RunsServe (machines_of (set_by found) lanes) (prompts_of (set_by found)) lanes (listening_by (set_by found) stop_after) old new) (sym r.is)
+      (runs_told (machines_of (set_by found) lanes) (prompts_of (set_by found)) lanes (listening_by (set_by found) stop_after) old new r.end r.run);
+  cause = subst (HasServeCause (lines_in found) faults faults' lanes old new) (sym r.is) (cause_told (lines_in found) faults faults' lanes old new r.end none r.cause);
+  complete = r.complete;
+  apart = r.apart;
+  places = places;
+  again = again;
+}
 
 -- a run whose settings weren't read
-pub serves_unread : (stop_after : Option ℕ) (found : Option (List ℕ)) (faults faults' : ℕ) (old : ServerWorld) (status : Status) → (old.disk_tells → (image : Image) → old.disk.crash_images_at old.disk.moment image → IsCrashImage old.disk image) → Unread (lines_in found) faults faults' status
-    → ServesAs stop_after found faults faults' old old status
-serves_unread stop_after found faults faults' old status only_now (inl e) = subst (ServesAs stop_after found faults faults' old old) (sym e) (record {
-  runs = idle_run (machine_of (set_by found)) (prompts_of (set_by found)) (listening_by (set_by found) stop_after) old old.ports only_now refl;
+pub serves_unread : {X : Type 0} (lanes : ℕ) (stop_after : Option ℕ) (found : Option (List ℕ)) (faults faults' : ℕ) (old : ServerWorld X) (status : Status)
+    → (old.disk_tells → (bay : X) (image : Image) → (old.view bay).disk.crash_images_at (old.view bay).disk.moment image → IsCrashImage (old.view bay).disk image) → Unread (lines_in found) faults faults' status
+    → ServesAs lanes stop_after found faults faults' old old status
+serves_unread {X} lanes stop_after found faults faults' old status only_now (inl e) = subst (ServesAs lanes stop_after found faults faults' old old) (sym e) (record {
+  runs = idle_run (machines_of (set_by found) lanes) (prompts_of (set_by found)) lanes (listening_by (set_by found) stop_after) old old.ports only_now refl;
   cause = tt;
-  complete = complete_links (machine_of (set_by found)) (prompts_of (set_by found)) (listening_by (set_by found) stop_after) old old;
-  places = λ tells. inr refl;
-  again = λ tells. may_serve_still old.disk;
+  complete = complete_links (machines_of (set_by found) lanes) (prompts_of (set_by found)) lanes (listening_by (set_by found) stop_after) old old;
+  apart = apart_lanes (set_by found).format (set_by found).log_exit (prompts_of (set_by found)) lanes (listening_by (set_by found) stop_after) old old;
+  places = λ tells l before after was is. inr (ap (λ (b : X). (old.view b).disk.places) (same_one old.bays l after before is was));
+  again = λ tells. may_serve_same old.view lanes old.bays;
 })
-serves_unread stop_after found faults faults' old status only_now (inr (line, e, c)) = subst (ServesAs stop_after found faults faults' old old) (sym e) (record {
-  runs = record { keeps = λ tells. keeps_nothing old.disk (only_now tells) (machine_of (set_by found)) (prompts_of (set_by found)); tape = refl; ports = refl };
+serves_unread {X} lanes stop_after found faults faults' old status only_now (inr (line, e, c)) = subst (ServesAs lanes stop_after found faults faults' old old) (sym e) (record {
+  runs = record { bays = refl; ports = refl };
   cause = c;
-  complete = complete_links (machine_of (set_by found)) (prompts_of (set_by found)) (listening_by (set_by found) stop_after) old old;
-  places = λ tells. refl;
-  again = λ tells. may_serve_still old.disk;
+  complete = complete_links (machines_of (set_by found) lanes) (prompts_of (set_by found)) lanes (listening_by (set_by found) stop_after) old old;
+  apart = apart_lanes (set_by found).format (set_by found).log_exit (prompts_of (set_by found)) lanes (listening_by (set_by found) stop_after) old old;
+  places = λ tells l before after was is. ap (λ (b : X). (old.view b).disk.places) (same_one old.bays l after before is was);
+  again = λ tells. may_serve_same old.view lanes old.bays;
 })

@@ -1,19 +1,17 @@
 -- The start of a run: the places that the disk is given, and a store with which nothing was done.
 use Rattle.std.proofs.Common.{◌≡◌, ◌≢◌, ◌≤◌, inl, inr, [], List, map, ℕ, Bool, None, Ok, refl, sym, ap, subst, ◌∙◌, arith}
 use Rattle.lsv_defs.specs.Causes.{HasRisen}
-use Rattle.lsv_disk.specs.Throughout.{Jointly, Throughout}
+use Rattle.lsv_disk.specs.Throughout.{Throughout}
 use Rattle.lsv_disk.specs.View.{DiskView, Image, IsCrashImage, IsLeftAlone, IsUntouched}
 use Rattle.lsv_disk.specs.declared.file.FileId.{FileId}
 use Rattle.lsv_disk.specs.declared.file.Owner.{Owner}
 use Rattle.lsv_machine.specs.Counts.{Counts}
-use Rattle.lsv_machine.specs.Disks.{AsBefore, AsksInRun, IsOfLaneStore, LinesAs, LinesAsBefore, NumbersFit, Past, SameLines, SameLog}
+use Rattle.lsv_machine.specs.Disks.{AsksInRun, IsOfLaneStore, LinesAs, NumbersFit, Past}
 use Rattle.lsv_machine.specs.Durable.{Good, Reading}
-use Rattle.lsv_machine.specs.Keeping.{OpensStore}
 use Rattle.lsv_machine.specs.Machine.{Machine, Settings}
 use Rattle.lsv_machine.specs.Recovery.{AnyTurnAsks, Kept, LinesAfter, LinesOfTurns, Ran, Recovers, RecoversLines, Story, Turn, all_turns}
 use Rattle.lsv_machine.specs.Starts.{ReadsAs}
 use Rattle.lsv_machine.specs.Turns.{Happened}
-use Rattle.lsv_machine.proofs.Folds.{touches_none}
 use Rattle.lsv_seq.specs.Drawn.{entry_at, judged}
 use Rattle.lsv_event.specs.declared.event.Kind.{Kind}
 use Rattle.lsv_keeper.specs.Opening.{IsStoreFault, KeepsEntry}
@@ -21,10 +19,8 @@ use Rattle.lsv_keeper.specs.Reading.{reading_of}
 use Rattle.lsv_keeper.specs.declared.fault.StoreFault.{StoreFault}
 use Rattle.lsv_turn.specs.Turns.{LaneTurn}
 use Rattle.lsv_iolog.specs.Recovered.{ReplaysNothing}
-use Rattle.lsv_lane.specs.Store.{AreAnswered, IsFresh, KeepsStore, OwnerFailed}
-use Rattle.lsv_lane.proofs.Conforming.{keeps_none}
+use Rattle.lsv_lane.specs.Store.{AreAnswered, HasStoreCause, IsFresh, KeepsStore, OwnerFailed}
 use Rattle.lsv_lane.proofs.Standing.{answered_before}
-use Rattle.lsv_service.specs.Runs.{HasStoreCause}
 use Rattle.lsv_once.specs.Causes.{HasOnceCause}
 use Rattle.lsv_once.specs.Course.{turn_of, turns_in}
 use Rattle.lsv_once.specs.Once.{IsOpened, RunsOnce, once_settings}
@@ -67,8 +63,8 @@ module _ (before after : DiskView) (u : IsUntouched before after) where
     none_above = λ a b last n is it. fit.none_above a b last n (possible_before a is) (possible_before b it);
   }
 
-  pub fresh_after : IsFresh 0 1 before → IsFresh 0 1 after
-  fresh_after fresh last e = fits_after (reading_of 0 1) 0 1 (fresh last (subst (λ (reads : Image). judged 0 1 (entry_at 0 reads) ≡ Ok last) reads_same e))
+  pub fresh_after : (lane lanes : ℕ) → IsFresh lane lanes before → IsFresh lane lanes after
+  fresh_after lane lanes fresh last e = fits_after (reading_of lane lanes) lane lanes (fresh last (subst (λ (reads : Image). judged lane lanes (entry_at lane reads) ≡ Ok last) reads_same e))
 
   good_after : (r : Reading) (g : List Happened) (n : ℕ) → Good r g before.reads n → Good r g after.reads n
   good_after r g n good = subst (λ (reads : Image). Good r g reads n) (sym reads_same) good
@@ -173,8 +169,8 @@ module _ (tells : Type 0) (found after : DiskView) (alone : IsLeftAlone tells fo
   failed_before : (new : DiskView) (o : Owner) → OwnerFailed o after new → OwnerFailed o found new
   failed_before new o (file, own, risen) = (file, own, subst (λ (n : ℕ). HasRisen n (new.faults file)) (alone.faults file) risen)
 
-  fault_before : (fault : StoreFault) → (tells → IsStoreFault 0 1 after.reads fault) → tells → IsStoreFault 0 1 found.reads fault
-  fault_before fault f told = subst (λ (reads : Image). IsStoreFault 0 1 reads fault) (reads_same found after (alone.untouched told)) (f told)
+  fault_before : (lane lanes : ℕ) (fault : StoreFault) → (tells → IsStoreFault lane lanes after.reads fault) → tells → IsStoreFault lane lanes found.reads fault
+  fault_before lane lanes fault f told = subst (λ (reads : Image). IsStoreFault lane lanes reads fault) (reads_same found after (alone.untouched told)) (f told)
 
   -- how turns were answered from the disk with its places, they were from the disk before
   pub answered_unplaced : (left : FileId → ℕ) (log_exit : Bool) (turns : List LaneTurn) → AreAnswered log_exit after.faults left turns → AreAnswered log_exit found.faults left turns
@@ -185,8 +181,8 @@ module _ (tells : Type 0) (found after : DiskView) (alone : IsLeftAlone tells fo
       → KeepsStore opened set texts (record { found = placed found left; left = left }) turns
   store_before opened set texts left turns told k = keeps_before (placed found left) (placed after left) (placed_untouched found after left (alone.untouched told)) alone.faults opened set texts left turns refl k
 
-  pub store_cause_before : (new : DiskView) (fault : StoreFault) → HasStoreCause tells after new fault → HasStoreCause tells found new fault
-  store_cause_before new fault c = record { memory = c.memory; is = fault_before fault c.is; failed = λ o e. failed_before new o (c.failed o e) }
+  pub store_cause_before : (lane lanes : ℕ) (new : DiskView) (fault : StoreFault) → HasStoreCause tells lane lanes after new fault → HasStoreCause tells lane lanes found new fault
+  store_cause_before lane lanes new fault c = record { memory = c.memory; is = fault_before lane lanes fault c.is; failed = λ o e. failed_before new o (c.failed o e) }
 
 -- the world with another disk of its store
 abbrev pub with_disk : World → DiskView → World
@@ -198,7 +194,7 @@ module _ (old : World) (after : DiskView) (alone : IsLeftAlone old.disk_tells ol
   cause_before new ReadFault c = c
   cause_before new WriteFault c = c
   cause_before new NoMem c = c
-  cause_before new (Store fault) c = record { memory = c.memory; is = fault_before old.disk_tells old.disk after alone fault c.is; failed = λ o e. failed_before old.disk_tells old.disk after alone new.disk o (c.failed o e) }
+  cause_before new (Store fault) c = store_cause_before old.disk_tells old.disk after alone 0 1 new.disk fault c
 
   pub runs_before : (set : Settings) (texts : List (List ℕ)) (new : World) (end : OnceEnd) → RunsOnce set texts (with_disk old after) new end → RunsOnce set texts old new end
   runs_before set texts new end r = record {
@@ -215,44 +211,7 @@ module _ (old : World) (after : DiskView) (alone : IsLeftAlone old.disk_tells ol
 
 -- ---- Nothing was done
 
-module _ (disk : DiskView) (only_now : (image : Image) → disk.crash_images_at disk.moment image → IsCrashImage disk image) where
-  jointly_now : (Holds : (Image → Type 0) → Type 0) → ((images : Image → Type 0) → ((image : Image) → images image → IsCrashImage disk image) → Holds images) → Jointly Holds disk disk
-  jointly_now Holds holds = record {
-    later = omega arith;
-    past = λ k image less is. is;
-    keeps = λ k image less is. is;
-    each = λ k from to. holds (disk.crash_images_at k) (λ image is. only_now image (subst (λ (i : ℕ). disk.crash_images_at i image) (let e : k ≡ disk.moment = omega arith in e) is));
-  }
-
-  same_log : (r : Reading) (n : ℕ) (image : Image) → SameLog r n image image
-  same_log r n image = record { to = λ found is. is; back = λ found is. is }
-
-  as_now : (r : Reading) (n : ℕ) (images : Image → Type 0) → ((image : Image) → images image → IsCrashImage disk image) → AsBefore r n (IsCrashImage disk) images
-  as_now r n images sub image is = (image, sub image is, same_log r n image)
-
-  same_lines : (r : Reading) (image : Image) → SameLines r image image
-  same_lines r image = record { to = λ text is. is; back = λ text is. is }
-
-  lines_now : (r : Reading) (images : Image → Type 0) → ((image : Image) → images image → IsCrashImage disk image) → LinesAsBefore r (IsCrashImage disk) images
-  lines_now r images sub image is = (image, sub image is, same_lines r image)
-
-  fewer : (r : Reading) (lane lanes : ℕ) (images : Image → Type 0) → NumbersFit r lane lanes (IsCrashImage disk) → ((image : Image) → images image → IsCrashImage disk image) → NumbersFit r lane lanes images
-  fewer r lane lanes images fit sub = record { told = λ image is. fit.told image (sub image is); none_above = λ a b last n is it. fit.none_above a b last n (sub a is) (sub b it) }
-
-  pub opens_nothing : (r : Reading) (lane lanes : ℕ) → OpensStore r lane lanes disk disk
-  opens_nothing r lane lanes = record {
-    files = touches_none lane lanes (λ n. ⊥) disk only_now;
-    monotone = λ file. omega arith;
-    logs = λ n. (jointly_now (AsBefore r n (IsCrashImage disk)) (as_now r n), record { images = as_now r n (IsCrashImage disk) (λ image is. is); reads = same_log r n disk.reads });
-    numbers = λ fit. record { moments = jointly_now (NumbersFit r lane lanes) (λ images sub. fewer r lane lanes images fit sub); now = fit };
-    lines = record { moments = jointly_now (LinesAsBefore r (IsCrashImage disk)) (lines_now r); now = lines_now r (IsCrashImage disk) (λ image is. is); reads = same_lines r disk.reads };
-  }
-
--- a store that wasn't opened, since nothing was done
-pub keeps_nothing : (disk : DiskView) → ((image : Image) → disk.crash_images_at disk.moment image → IsCrashImage disk image) → (set : Settings) (texts : List (List ℕ)) → KeepsStore ⊥ set texts (record { found = disk; left = disk }) []
-keeps_nothing disk only_now set texts = keeps_none set texts disk disk (opens_nothing disk only_now (reading_of set.lane set.lanes) set.lane set.lanes) (λ n. record { writes = λ file own. refl; syncs = λ file own. refl })
-
--- its number file's last entry stays
+-- the number file's last entry stays
 pub entry_stays : (disk : DiskView) → ((image : Image) → disk.crash_images_at disk.moment image → IsCrashImage disk image) → KeepsEntry 0 disk disk
 entry_stays disk only_now = record {
   moments = λ k image from to is. (image, only_now image (subst (λ (i : ℕ). disk.crash_images_at i image) (let e : k ≡ disk.moment = omega arith in e) is), refl);

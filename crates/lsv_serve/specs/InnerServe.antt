@@ -14,25 +14,25 @@ nothing = record { state = record { opened = []; link = λ l. fresh_link (λ m. 
 abbrev pub port_at : List PortView → ℕ → PortView
 port_at ports i = get_or ports i nothing
 
--- posts of these ports, each numbered by its place, whose jobs go to the one lane, that have done nothing
-pub record ArePosts {T : Type 0} (number lanes : T → ℕ) (made_by : PortView → T → (ℕ → List Job) → List Reply → Type 0) (view : T → PortView) (ports : List PortView) (posts : List T) : Type 0 where
+-- posts of these ports, each numbered by its place, whose jobs go to this many lanes, that have done nothing
+pub record ArePosts {T : Type 0} (number lanes : T → ℕ) (made_by : PortView → T → (ℕ → List Job) → List Reply → Type 0) (view : T → PortView) (many : ℕ) (ports : List PortView) (posts : List T) : Type 0 where
   pub count : length posts ≡ length ports
   pub numbered : (i : ℕ) (post : T) → slice_get posts i ≡ Some post → number post ≡ i
-  pub laned : (i : ℕ) (post : T) → slice_get posts i ≡ Some post → lanes post ≡ 1
+  pub laned : (i : ℕ) (post : T) → slice_get posts i ≡ Some post → lanes post ≡ many
   pub made : (i : ℕ) (post : T) → slice_get posts i ≡ Some post → made_by (port_at ports i) post (λ lane. []) []
   pub views : map view posts ≡ ports
 
--- a port became a post of this number, the last of them; none was left before
-pub record BecomesPost {T P : Type 0} (number lanes : T → ℕ) (made_by : PortView → T → (ℕ → List Job) → List Reply → Type 0) (view : T → PortView) (port_view : P → PortView) (n : ℕ) (port : P) (posts posts' : List T) (left left' : List P) : Type 0 where
+-- a port became a post of this number, whose jobs go to this many lanes, the last of them; none was left before
+pub record BecomesPost {T P : Type 0} (number lanes : T → ℕ) (made_by : PortView → T → (ℕ → List Job) → List Reply → Type 0) (view : T → PortView) (port_view : P → PortView) (n many : ℕ) (port : P) (posts posts' : List T) (left left' : List P) : Type 0 where
   pub post : T
   pub last : posts' ≡ posts ++ post ∷ []
   pub none : left ≡ []
   pub still : left' ≡ []
   pub numbered : number post ≡ n
-  pub laned : lanes post ≡ 1
+  pub laned : lanes post ≡ many
   pub made : made_by (port_view port) post (λ lane. []) []
   pub seen : view post ≡ port_view port
 
 -- the same; or it was left, the last of those
-abbrev pub IsSeated : {T P : Type 0} (number lanes : T → ℕ) (made_by : PortView → T → (ℕ → List Job) → List Reply → Type 0) (view : T → PortView) (port_view : P → PortView) → ℕ → P → (posts posts' : List T) (left left' : List P) → Type 0
-IsSeated {T} {P} number lanes made_by view port_view n port posts posts' left left' = BecomesPost number lanes made_by view port_view n port posts posts' left left' ⊎ ((posts' ≡ posts) × (left' ≡ left ++ port ∷ []))
+abbrev pub IsSeated : {T P : Type 0} (number lanes : T → ℕ) (made_by : PortView → T → (ℕ → List Job) → List Reply → Type 0) (view : T → PortView) (port_view : P → PortView) → (n many : ℕ) → P → (posts posts' : List T) (left left' : List P) → Type 0
+IsSeated {T} {P} number lanes made_by view port_view n many port posts posts' left left' = BecomesPost number lanes made_by view port_view n many port posts posts' left left' ⊎ ((posts' ≡ posts) × (left' ≡ left ++ port ∷ []))

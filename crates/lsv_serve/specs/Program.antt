@@ -4,7 +4,7 @@ use Rattle.std.specs.List.{list_all}
 use Rattle.std.specs.Str.{is_utf8}
 use Rattle.clap.specs.Words.{fault_of}
 use Rattle.lsv_args.specs.Commands.{commands}
-use Rattle.lsv_args.specs.Reading.{Asked, asked}
+use Rattle.lsv_args.specs.Reading.{Asked, Once, Serve, Load, Relay, asked}
 use Rattle.lsv_conf.specs.Lines.{Placed, lines_of}
 use Rattle.lsv_conf.specs.Settings.{settings_of}
 use Rattle.lsv_conf.specs.Settings as conf
@@ -17,6 +17,13 @@ pub record Asks (words : List (List ℕ)) (a : Asked) : Type 0 where
   pub text : IsTrue (list_all is_utf8 words)
   pub taken : fault_of commands words ≡ []
   pub is : asked words ≡ Some a
+
+-- of how many lanes a run asks that their disks are those that this server's runs leave
+abbrev pub lanes_by : Asked → ℕ
+lanes_by (Once o) = 1
+lanes_by (Serve o) = o.lanes
+lanes_by (Load o count) = 1
+lanes_by (Relay o) = 0
 
 -- the lines of a settings file that was found so: where there is none, they are those of an empty one
 abbrev pub lines_in : Option (List ℕ) → List Placed

@@ -12,11 +12,11 @@ mod serve;
 mod status;
 mod text;
 
-pub use laws::an_empty_store_may_be_served;
+pub use laws::{an_empty_store_may_be_served, words_ask_for_few_lanes};
 pub use load::serve_load;
 pub use once::run_once;
 pub use outside::{Kept, Options, Outside};
-pub use program::logsrvd;
+pub use program::{command_of, logsrvd};
 pub use relay::run_relay;
 pub use serve::run_serve;
 pub use status::Status;

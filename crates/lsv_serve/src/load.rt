@@ -45,16 +45,17 @@ fn load_by<
     T,
     L,
     N,
+    B,
     F: LineWriter + Drop,
     H: Search + Drop,
 >(
     alloc: Global,
     options: Options,
     count: u32,
-    out: Outside<S, K, P, D, C, G, T, L, N>,
+    out: Outside<S, K, P, D, C, G, T, L, N, B>,
     formatter: Formatter<F>,
     prompt: Prompt<H>,
-) -> (Outside<S, K, P, D, C, G, T, L, N>, Status)
+) -> (Outside<S, K, P, D, C, G, T, L, N, B>, Status)
     requires first { 1 ≤ count }
     requires last { count ≤ 10000 }
     requires fresh { D.tells → IsFresh 0 1 (D.view out.disk) }
@@ -64,31 +65,35 @@ fn load_by<
         out.disk result.0.disk (G.turns out.tape) (G.turns result.0.tape) result.1 }
     ensures places { D.tells → HasPlaces options.logs options.events (D.view result.0.disk) }
     ensures again { D.tells → MayServeAgain (D.view out.disk) (D.view result.0.disk) }
-    ensures beside { (result.0.source ≡ out.source) × (result.0.ports ≡ out.ports) × (result.0.texts ≡ out.texts) × (result.0.link ≡ out.link) }
+    ensures beside { (result.0.source ≡ out.source) × (result.0.ports ≡ out.ports) × (result.0.texts ≡ out.texts) × (result.0.link ≡ out.link) × (result.0.others ≡ out.others) × (result.0.bells ≡ out.bells) }
 {
     a_load_sums_up_all_its_conversations::<D, G>();
     let Outside {
         source,
         mut sink,
         ports,
+        bells,
         disk,
         clock,
         tape,
+        others,
         texts,
         link,
         notices,
     } = out;
-    let (bay, plan) = store_of(options, Bay { disk, clock, tape }, formatter, prompt);
-    let (bay, end) = run_load(alloc, count, bay, plan);
+    let (bay, policy) = store_of(options, Bay { disk, clock, tape }, formatter, prompt);
+    let (bay, end) = run_load(alloc, count, bay, policy);
     let Bay { disk, clock, tape } = bay;
     let status = tell_load(&mut sink, end);
     let out = Outside {
         source,
         sink,
         ports,
+        bells,
         disk,
         clock,
         tape,
+        others,
         texts,
         link,
         notices,
@@ -96,7 +101,7 @@ fn load_by<
     (out, status)
 }
 
-/// Serves this many generated conversations over the store of one lane, and puts the summary of the logs that they leave. Nothing
+/// Serves this many generated conversations over the store of lane 0, and puts the summary of the logs that they leave. Nothing
 /// else changes the store while it runs.
 pub fn serve_load<
     S: Source,
@@ -108,6 +113,7 @@ pub fn serve_load<
     T,
     L,
     N,
+    B,
     F: LineWriter + Drop,
     J: LineWriter + Drop,
     H: Search + Drop,
@@ -115,9 +121,9 @@ pub fn serve_load<
     alloc: Global,
     options: Options,
     count: u32,
-    out: Outside<S, K, P, D, C, G, T, L, N>,
+    out: Outside<S, K, P, D, C, G, T, L, N, B>,
     kept: Kept<F, J, H>,
-) -> (Outside<S, K, P, D, C, G, T, L, N>, Status)
+) -> (Outside<S, K, P, D, C, G, T, L, N, B>, Status)
     requires sudo { kept.sudo.kind ≡ kinds.Sudo }
     requires json { kept.json.kind ≡ kinds.Json }
     requires first { 1 ≤ count }
@@ -129,7 +135,7 @@ pub fn serve_load<
         out.disk result.0.disk (G.turns out.tape) (G.turns result.0.tape) result.1 }
     ensures places { D.tells → HasPlaces options.logs options.events (D.view result.0.disk) }
     ensures again { D.tells → MayServeAgain (D.view out.disk) (D.view result.0.disk) }
-    ensures beside { (result.0.source ≡ out.source) × (result.0.ports ≡ out.ports) × (result.0.texts ≡ out.texts) × (result.0.link ≡ out.link) }
+    ensures beside { (result.0.source ≡ out.source) × (result.0.ports ≡ out.ports) × (result.0.texts ≡ out.texts) × (result.0.link ≡ out.link) × (result.0.others ≡ out.others) × (result.0.bells ≡ out.bells) }
 {
     match options.form {
         Kind::Sudo => load_by(alloc, options, count, out, kept.sudo, kept.prompt),

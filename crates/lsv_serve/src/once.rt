@@ -16,7 +16,6 @@ use lsv_hook::{Formatter, LineWriter};
 use lsv_lane::Bay;
 use lsv_mask::{Prompt, Search};
 use lsv_once::{OnceEnd, serve_once};
-use lsv_service::Plan;
 use lsv_turn::Tape;
 use std::alloc::Global;
 
@@ -44,59 +43,49 @@ fn serve_by<
     T,
     L,
     N,
+    B,
     F: LineWriter + Drop,
     H: Search + Drop,
 >(
     alloc: Global,
     options: Options,
-    out: Outside<S, K, P, D, C, G, T, L, N>,
+    out: Outside<S, K, P, D, C, G, T, L, N, B>,
     formatter: Formatter<F>,
     prompt: Prompt<H>,
-) -> (Outside<S, K, P, D, C, G, T, L, N>, Status)
+) -> (Outside<S, K, P, D, C, G, T, L, N, B>, Status)
     requires fresh { D.tells → IsFresh 0 1 (D.view out.disk) }
     ensures runs { OnceBy formatter.kind options.log_exit options.prompts
         (world_of ⟦<S as Source>⟧ ⟦<K as Sink>⟧ ⟦<D as Disk>⟧ ⟦<G as Tape>⟧ out.source out.sink out.disk out.tape)
         (world_of ⟦<S as Source>⟧ ⟦<K as Sink>⟧ ⟦<D as Disk>⟧ ⟦<G as Tape>⟧ result.0.source result.0.sink result.0.disk result.0.tape) result.1 }
     ensures places { D.tells → HasPlaces options.logs options.events (D.view result.0.disk) }
     ensures again { D.tells → MayServeAgain (D.view out.disk) (D.view result.0.disk) }
-    ensures beside { (result.0.ports ≡ out.ports) × (result.0.texts ≡ out.texts) × (result.0.link ≡ out.link) }
+    ensures beside { (result.0.ports ≡ out.ports) × (result.0.texts ≡ out.texts) × (result.0.link ≡ out.link) × (result.0.others ≡ out.others) × (result.0.bells ≡ out.bells) }
 {
     let Outside {
         mut source,
         mut sink,
         ports,
+        bells,
         disk,
         clock,
         tape,
+        others,
         texts,
         link,
         notices,
     } = out;
-    let (bay, plan) = store_of(options, Bay { disk, clock, tape }, formatter, prompt);
-    let Plan {
-        formatter,
-        log_exit,
-        texts: prompts,
-        prompt,
-    } = plan;
-    let (bay, end) = serve_once(
-        alloc,
-        &mut source,
-        &mut sink,
-        bay,
-        formatter,
-        log_exit,
-        prompts,
-        prompt,
-    );
+    let (bay, policy) = store_of(options, Bay { disk, clock, tape }, formatter, prompt);
+    let (bay, end) = serve_once(alloc, &mut source, &mut sink, bay, policy);
     let Bay { disk, clock, tape } = bay;
     let out = Outside {
         source,
         sink,
         ports,
+        bells,
         disk,
         clock,
         tape,
+        others,
         texts,
         link,
         notices,
@@ -104,7 +93,7 @@ fn serve_by<
     (out, status_of(end))
 }
 
-/// Serves one connection, from the source to the sink, over the store of one lane. Its turns are kept on the tape. Nothing else
+/// Serves one connection, from the source to the sink, over the store of lane 0. Its turns are kept on the tape. Nothing else
 /// changes the store while it runs.
 pub fn run_once<
     S: Source,
@@ -116,15 +105,16 @@ pub fn run_once<
     T,
     L,
     N,
+    B,
     F: LineWriter + Drop,
     J: LineWriter + Drop,
     H: Search + Drop,
 >(
     alloc: Global,
     options: Options,
-    out: Outside<S, K, P, D, C, G, T, L, N>,
+    out: Outside<S, K, P, D, C, G, T, L, N, B>,
     kept: Kept<F, J, H>,
-) -> (Outside<S, K, P, D, C, G, T, L, N>, Status)
+) -> (Outside<S, K, P, D, C, G, T, L, N, B>, Status)
     requires sudo { kept.sudo.kind ≡ kinds.Sudo }
     requires json { kept.json.kind ≡ kinds.Json }
     requires fresh { D.tells → IsFresh 0 1 (D.view out.disk) }
@@ -133,7 +123,7 @@ pub fn run_once<
         (world_of ⟦<S as Source>⟧ ⟦<K as Sink>⟧ ⟦<D as Disk>⟧ ⟦<G as Tape>⟧ result.0.source result.0.sink result.0.disk result.0.tape) result.1 }
     ensures places { D.tells → HasPlaces options.logs options.events (D.view result.0.disk) }
     ensures again { D.tells → MayServeAgain (D.view out.disk) (D.view result.0.disk) }
-    ensures beside { (result.0.ports ≡ out.ports) × (result.0.texts ≡ out.texts) × (result.0.link ≡ out.link) }
+    ensures beside { (result.0.ports ≡ out.ports) × (result.0.texts ≡ out.texts) × (result.0.link ≡ out.link) × (result.0.others ≡ out.others) × (result.0.bells ≡ out.bells) }
 {
     match options.form {
         Kind::Sudo => serve_by(alloc, options, out, kept.sudo, kept.prompt),

@@ -20,23 +20,25 @@ fn put<T: Drop>(values: &mut Vec<T>, value: T)
     };
 }
 
-/// Makes a post of this number of a port. If memory runs out for it, or ran out for one before, the port is left.
+/// Makes a post of this number of a port, whose jobs go to this many lanes. If memory runs out for it, or ran out for one before, the port is left.
 fn seat<P: Port + Drop>(
     alloc: Global,
     number: u32,
+    lanes: u32,
     port: P,
     posts: &mut Vec<WorkerEndpoint<P>>,
     left: &mut Vec<P>,
 )
+    requires lanes { (1 ≤ lanes) × (lanes ≤ 8) }
     requires idle { P.tells → IsUnopened (P.state port) }
     requires posts_room { vec_len posts.old < vec_capacity posts.old }
     requires left_room { vec_len left.old < vec_capacity left.old }
-    ensures seated { IsSeated ⟦<WorkerEndpoint<P> as Endpoint>⟧.number ⟦<WorkerEndpoint<P> as Endpoint>⟧.lanes ⟦<WorkerEndpoint<P> as Endpoint>⟧.made_by ⟦<WorkerEndpoint<P> as Endpoint>⟧.view (view_by P.state P.ledger) number port posts.old.items posts.new.items left.old.items left.new.items }
+    ensures seated { IsSeated ⟦<WorkerEndpoint<P> as Endpoint>⟧.number ⟦<WorkerEndpoint<P> as Endpoint>⟧.lanes ⟦<WorkerEndpoint<P> as Endpoint>⟧.made_by ⟦<WorkerEndpoint<P> as Endpoint>⟧.view (view_by P.state P.ledger) number lanes port posts.old.items posts.new.items left.old.items left.new.items }
     ensures posts_room { vec_capacity posts.old ≤ vec_capacity posts.new }
     ensures left_room { vec_capacity left.old ≤ vec_capacity left.new }
 {
     if left.is_empty() {
-        match WorkerEndpoint::new(alloc, number, 1, port) {
+        match WorkerEndpoint::new(alloc, number, lanes, port) {
             Ok(post) => put(posts, post),
             Err(port) => put(left, port),
         }
@@ -57,17 +59,19 @@ fn joined<P: Port + Drop>(front: Vec<P>, back: Vec<P>) -> Vec<P>
     ports
 }
 
-/// A post for each port, in their order, and the room that was given. Out of memory the ports are given back, in their order.
+/// A post for each port, in their order, whose jobs go to this many lanes; and the room that was given. Out of memory the ports are given back, in their order.
 pub(crate) fn posts_of<P: Port + Drop>(
     alloc: Global,
+    lanes: u32,
     ports: Vec<P>,
     room: Vec<P>,
 ) -> Result<(Vec<WorkerEndpoint<P>>, Vec<P>), Vec<P>>
+    requires lanes { (1 ≤ lanes) × (lanes ≤ 8) }
     requires few { length ports.items ≤ 64 }
     requires idle { P.tells → (i : ℕ) (port : P) → slice_get ports.items i ≡ Some port → IsUnopened (P.state port) }
     requires empty { vec_len room ≡ 0 }
     requires room { length ports.items ≤ vec_capacity room }
-    ensures made { IfOk result (λ r. ArePosts ⟦<WorkerEndpoint<P> as Endpoint>⟧.number ⟦<WorkerEndpoint<P> as Endpoint>⟧.lanes ⟦<WorkerEndpoint<P> as Endpoint>⟧.made_by ⟦<WorkerEndpoint<P> as Endpoint>⟧.view (map (view_by P.state P.ledger) ports.items) r.0.items) }
+    ensures made { IfOk result (λ r. ArePosts ⟦<WorkerEndpoint<P> as Endpoint>⟧.number ⟦<WorkerEndpoint<P> as Endpoint>⟧.lanes ⟦<WorkerEndpoint<P> as Endpoint>⟧.made_by ⟦<WorkerEndpoint<P> as Endpoint>⟧.view lanes (map (view_by P.state P.ledger) ports.items) r.0.items) }
     ensures room { IfOk result (λ r. r.1 ≡ room) }
     ensures back { IfErr result (λ given. map (view_by P.state P.ledger) given.items ≡ map (view_by P.state P.ledger) ports.items) }
 {
@@ -79,7 +83,7 @@ pub(crate) fn posts_of<P: Port + Drop>(
     };
     let mut number: u32 = 0;
     for port in ports {
-        seat(alloc, number, port, &mut posts, &mut left);
+        seat(alloc, number, lanes, port, &mut posts, &mut left);
         number += 1;
     }
     if left.is_empty() {

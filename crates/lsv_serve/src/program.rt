@@ -1,6 +1,6 @@
 //! The program: its words and its settings file, and the command that they ask for.
 
-ghost use Rattle.std.specs.Prelude.{◌≡◌, ◌≤◌, ◌⊎◌, ℕ, List, [], Option, Some, None, length, slice_get, Err, IfOk, IfErr, OnOk, unwrap_or};
+ghost use Rattle.std.specs.Prelude.{◌≡◌, ◌≤◌, ◌+◌, ◌⊎◌, ℕ, List, [], Option, Some, None, length, slice_get, Err, IfOk, IfErr, OnOk, unwrap_or};
 ghost use Rattle.lsv_args.specs.Reading as told;
 ghost use Rattle.lsv_args.specs.Reading.{Asked, IsInRange, Load, Once, Relay, Serve, asked_in};
 ghost use Rattle.lsv_conf.specs.Lines.{first_refused};
@@ -12,9 +12,10 @@ ghost use Rattle.lsv_endpoint.specs.Ports.{IsUnopened};
 ghost use Rattle.lsv_serve.specs.Causes.{HasConfCause};
 ghost use Rattle.lsv_serve.specs.Load.{LoadsAs};
 ghost use Rattle.lsv_serve.specs.Once.{OnceAs};
-ghost use Rattle.lsv_serve.specs.Program.{AsFound, Asks, lines_in, prompts_of, set_by, upstream_of};
+ghost use Rattle.lsv_serve.specs.Program.{AsFound, Asks, lanes_by, lines_in, prompts_of, set_by, upstream_of};
 ghost use Rattle.lsv_serve.specs.Relay.{RelaysAs, relay_of};
-ghost use Rattle.lsv_serve.specs.Serve.{ServesAs, server_of};
+ghost use Rattle.lsv_service.specs.Lanes.{AreFreshBays, bay_by};
+ghost use Rattle.lsv_serve.specs.Serve.{ServesAs, bays_of, server_of};
 ghost use Rattle.lsv_once.specs.World.{world_of};
 
 use crate::load::serve_load;
@@ -32,13 +33,15 @@ use lsv_forward::RelayNotices;
 use lsv_hook::LineWriter;
 use lsv_link::Link;
 use lsv_mask::Search;
-use lsv_port::Port;
+use lsv_port::{Bell, Port};
 use lsv_service::Notices;
 use lsv_turn::Tape;
 use std::alloc::Global;
+use std::sync::Wait;
+use std::thread::Threads;
 
-/// What the words ask for. Words that ask for nothing are Usage.
-fn command_of(alloc: Global, words: &List<Bytes>) -> Result<Command, ArgFault>
+/// What the words ask for. `Usage` if they ask for nothing, and `NoMem` if memory runs out.
+pub fn command_of(alloc: Global, words: &List<Bytes>) -> Result<Command, ArgFault>
     ensures ok { IfOk result (λ command. Asks words.now (asked_in command)) }
     ensures in_range { IfOk result (λ command. IsInRange (asked_in command)) }
     ensures usage { result ≡ Err ArgFault.Usage → (a : Asked) → Asks words.now a → ⊥ }
@@ -70,7 +73,7 @@ fn conf_in(alloc: Global, found: &Option<Bytes>) -> Result<Conf, Status>
 {
     match read_conf(alloc, text_in(found)) {
         Ok(conf) => Ok(conf),
-        Err(ConfFault::Line(line)) => Err(Status::Conf(line)),
+        Err(ConfFault::Refused(refused)) => Err(Status::Conf(refused.first.line)),
         Err(ConfFault::NoMem) => Err(Status::NoMem),
     }
 }
@@ -135,24 +138,25 @@ fn once<
     T: Texts,
     L,
     N,
+    B,
     F: LineWriter + Drop,
     J: LineWriter + Drop,
     H: Search + Drop,
 >(
     alloc: Global,
     opts: &Opts,
-    out: Outside<S, K, P, D, C, G, T, L, N>,
+    out: Outside<S, K, P, D, C, G, T, L, N, B>,
     kept: Kept<F, J, H>,
-) -> (Outside<S, K, P, D, C, G, T, L, N>, Status)
+) -> (Outside<S, K, P, D, C, G, T, L, N, B>, Status)
     requires sudo { kept.sudo.kind ≡ kinds.Sudo }
     requires json { kept.json.kind ≡ kinds.Json }
     requires fresh { D.tells → IsFresh 0 1 (D.view out.disk) }
     ensures once { AsFound T.tells opts.now.conf (T.texts out.texts) (λ found. OnceAs found (T.faults out.texts) (T.faults result.0.texts)
         (world_of ⟦<S as Source>⟧ ⟦<K as Sink>⟧ ⟦<D as Disk>⟧ ⟦<G as Tape>⟧ out.source out.sink out.disk out.tape)
         (world_of ⟦<S as Source>⟧ ⟦<K as Sink>⟧ ⟦<D as Disk>⟧ ⟦<G as Tape>⟧ result.0.source result.0.sink result.0.disk result.0.tape) result.1) }
-    ensures unserved { (line : ℕ) → result.1 ≡ Status.Conf line → (result.0.source ≡ out.source) × (result.0.sink ≡ out.sink) × (result.0.disk ≡ out.disk) × (result.0.clock ≡ out.clock) × (result.0.tape ≡ out.tape) }
+    ensures unserved { (line : ℕ) → result.1 ≡ Status.Conf line → (result.0.source ≡ out.source) × (result.0.sink ≡ out.sink) × (result.0.disk ≡ out.disk) × (result.0.clock ≡ out.clock) × (result.0.tape ≡ out.tape) × (result.0.others ≡ out.others) × (result.0.bells ≡ out.bells) }
     ensures not_usage { result.1 ≡ Status.Usage → ⊥ }
-    ensures beside { (result.0.ports ≡ out.ports) × (result.0.link ≡ out.link) }
+    ensures beside { (result.0.ports ≡ out.ports) × (result.0.link ≡ out.link) × (result.0.others ≡ out.others) × (result.0.bells ≡ out.bells) }
 {
     let mut out = out;
     let found = match found_file(alloc, &mut out.texts, opts) {
@@ -169,31 +173,36 @@ fn once<
 fn serve<
     S,
     K,
-    P: Port + Drop,
-    D: Disk,
-    C: Clock,
-    G: Tape,
+    P: Port + Send + Drop,
+    D: Disk + Send + Drop,
+    C: Clock + Send + Drop,
+    G: Tape + Send + Drop,
     T: Texts,
     L,
     N: Notices,
-    F: LineWriter + Drop,
-    J: LineWriter + Drop,
-    H: Search + Drop,
+    B: Bell + Sync + Drop,
+    F: LineWriter + Sync + Drop,
+    J: LineWriter + Sync + Drop,
+    H: Search + Sync + Drop,
+    R: Threads + Wait + Sync,
 >(
+    rt: &R,
     alloc: Global,
     opts: &Opts,
-    out: Outside<S, K, P, D, C, G, T, L, N>,
+    out: Outside<S, K, P, D, C, G, T, L, N, B>,
     kept: Kept<F, J, H>,
-) -> (Outside<S, K, P, D, C, G, T, L, N>, Status)
+) -> (Outside<S, K, P, D, C, G, T, L, N, B>, Status)
     requires sudo { kept.sudo.kind ≡ kinds.Sudo }
     requires json { kept.json.kind ≡ kinds.Json }
-    requires fresh { D.tells → IsFresh 0 1 (D.view out.disk) }
-    requires few { length out.ports.items ≤ 64 }
+    requires lanes { (1 ≤ opts.now.lanes) × (opts.now.lanes ≤ 8) }
+    requires bays { opts.now.lanes ≤ 1 + length out.others.items }
+    requires fresh { D.tells → AreFreshBays (bay_by ⟦<D as Disk>⟧ ⟦<G as Tape>⟧) opts.now.lanes (bays_of out.disk out.clock out.tape out.others.items) }
+    requires ports { (1 ≤ length out.ports.items) × (length out.ports.items ≤ 64) }
     requires idle { P.tells → (i : ℕ) (port : P) → slice_get out.ports.items i ≡ Some port → IsUnopened (P.state port) }
-    ensures serves { AsFound T.tells opts.now.conf (T.texts out.texts) (λ found. ServesAs opts.now.stop_after found (T.faults out.texts) (T.faults result.0.texts)
-        (server_of ⟦<P as Port>⟧ ⟦<D as Disk>⟧ ⟦<G as Tape>⟧ out.ports.items out.disk out.tape)
-        (server_of ⟦<P as Port>⟧ ⟦<D as Disk>⟧ ⟦<G as Tape>⟧ result.0.ports.items result.0.disk result.0.tape) result.1) }
-    ensures unserved { (line : ℕ) → result.1 ≡ Status.Conf line → (result.0.source ≡ out.source) × (result.0.sink ≡ out.sink) × (result.0.disk ≡ out.disk) × (result.0.clock ≡ out.clock) × (result.0.tape ≡ out.tape) }
+    ensures serves { AsFound T.tells opts.now.conf (T.texts out.texts) (λ found. ServesAs opts.now.lanes opts.now.stop_after found (T.faults out.texts) (T.faults result.0.texts)
+        (server_of ⟦<P as Port>⟧ ⟦<D as Disk>⟧ ⟦<G as Tape>⟧ out.ports.items (bays_of out.disk out.clock out.tape out.others.items))
+        (server_of ⟦<P as Port>⟧ ⟦<D as Disk>⟧ ⟦<G as Tape>⟧ result.0.ports.items (bays_of result.0.disk result.0.clock result.0.tape result.0.others.items)) result.1) }
+    ensures unserved { (line : ℕ) → result.1 ≡ Status.Conf line → (result.0.source ≡ out.source) × (result.0.sink ≡ out.sink) × (result.0.disk ≡ out.disk) × (result.0.clock ≡ out.clock) × (result.0.tape ≡ out.tape) × (result.0.others ≡ out.others) × (result.0.bells ≡ out.bells) }
     ensures not_usage { result.1 ≡ Status.Usage → ⊥ }
     ensures beside { (result.0.source ≡ out.source) × (result.0.sink ≡ out.sink) × (result.0.link ≡ out.link) }
 {
@@ -203,7 +212,15 @@ fn serve<
         Err(status) => return (out, status),
     };
     match conf_in(alloc, &found) {
-        Ok(conf) => run_serve(alloc, options_of(alloc, conf), opts.stop_after, out, kept),
+        Ok(conf) => run_serve(
+            rt,
+            alloc,
+            options_of(alloc, conf),
+            opts.lanes,
+            opts.stop_after,
+            out,
+            kept,
+        ),
         Err(status) => (out, status),
     }
 }
@@ -219,6 +236,7 @@ fn load<
     T: Texts,
     L,
     N,
+    B,
     F: LineWriter + Drop,
     J: LineWriter + Drop,
     H: Search + Drop,
@@ -226,9 +244,9 @@ fn load<
     alloc: Global,
     opts: &Opts,
     count: u32,
-    out: Outside<S, K, P, D, C, G, T, L, N>,
+    out: Outside<S, K, P, D, C, G, T, L, N, B>,
     kept: Kept<F, J, H>,
-) -> (Outside<S, K, P, D, C, G, T, L, N>, Status)
+) -> (Outside<S, K, P, D, C, G, T, L, N, B>, Status)
     requires sudo { kept.sudo.kind ≡ kinds.Sudo }
     requires json { kept.json.kind ≡ kinds.Json }
     requires first { 1 ≤ count }
@@ -238,9 +256,9 @@ fn load<
         (world_of ⟦<S as Source>⟧ ⟦<K as Sink>⟧ ⟦<D as Disk>⟧ ⟦<G as Tape>⟧ out.source out.sink out.disk out.tape)
         (world_of ⟦<S as Source>⟧ ⟦<K as Sink>⟧ ⟦<D as Disk>⟧ ⟦<G as Tape>⟧ result.0.source result.0.sink result.0.disk result.0.tape)
         out.disk result.0.disk (G.turns out.tape) (G.turns result.0.tape) result.1) }
-    ensures unserved { (line : ℕ) → result.1 ≡ Status.Conf line → (result.0.source ≡ out.source) × (result.0.sink ≡ out.sink) × (result.0.disk ≡ out.disk) × (result.0.clock ≡ out.clock) × (result.0.tape ≡ out.tape) }
+    ensures unserved { (line : ℕ) → result.1 ≡ Status.Conf line → (result.0.source ≡ out.source) × (result.0.sink ≡ out.sink) × (result.0.disk ≡ out.disk) × (result.0.clock ≡ out.clock) × (result.0.tape ≡ out.tape) × (result.0.others ≡ out.others) × (result.0.bells ≡ out.bells) }
     ensures not_usage { result.1 ≡ Status.Usage → ⊥ }
-    ensures beside { (result.0.source ≡ out.source) × (result.0.ports ≡ out.ports) × (result.0.link ≡ out.link) }
+    ensures beside { (result.0.source ≡ out.source) × (result.0.ports ≡ out.ports) × (result.0.link ≡ out.link) × (result.0.others ≡ out.others) × (result.0.bells ≡ out.bells) }
 {
     let mut out = out;
     let found = match found_file(alloc, &mut out.texts, opts) {
@@ -254,16 +272,16 @@ fn load<
 }
 
 /// The command `relay`, by the settings of its file.
-fn relay<S, K, P, D: Disk, C, G, T: Texts, L: Link, N: RelayNotices>(
+fn relay<S, K, P, D: Disk, C, G, T: Texts, L: Link, N: RelayNotices, B>(
     alloc: Global,
     opts: &Opts,
-    out: &mut Outside<S, K, P, D, C, G, T, L, N>,
+    out: &mut Outside<S, K, P, D, C, G, T, L, N, B>,
 ) -> Status
     ensures relays { AsFound T.tells opts.now.conf (T.texts out.old.texts) (λ found. RelaysAs D.view found (T.faults out.old.texts) (T.faults out.new.texts)
         (relay_of ⟦<D as Disk>⟧ ⟦<L as Link>⟧ out.old.disk out.old.link) (relay_of ⟦<D as Disk>⟧ ⟦<L as Link>⟧ out.new.disk out.new.link) result) }
-    ensures unserved { (line : ℕ) → result ≡ Status.Conf line → (out.new.source ≡ out.old.source) × (out.new.sink ≡ out.old.sink) × (out.new.disk ≡ out.old.disk) × (out.new.clock ≡ out.old.clock) × (out.new.tape ≡ out.old.tape) }
+    ensures unserved { (line : ℕ) → result ≡ Status.Conf line → (out.new.source ≡ out.old.source) × (out.new.sink ≡ out.old.sink) × (out.new.disk ≡ out.old.disk) × (out.new.clock ≡ out.old.clock) × (out.new.tape ≡ out.old.tape) × (out.new.others ≡ out.old.others) × (out.new.bells ≡ out.old.bells) }
     ensures not_usage { result ≡ Status.Usage → ⊥ }
-    ensures beside { (out.new.source ≡ out.old.source) × (out.new.sink ≡ out.old.sink) × (out.new.ports ≡ out.old.ports) × (out.new.clock ≡ out.old.clock) × (out.new.tape ≡ out.old.tape) }
+    ensures beside { (out.new.source ≡ out.old.source) × (out.new.sink ≡ out.old.sink) × (out.new.ports ≡ out.old.ports) × (out.new.clock ≡ out.old.clock) × (out.new.tape ≡ out.old.tape) × (out.new.others ≡ out.old.others) × (out.new.bells ≡ out.old.bells) }
 {
     let found = match found_file(alloc, &mut out.texts, opts) {
         Ok(found) => found,
@@ -282,47 +300,51 @@ fn relay<S, K, P, D: Disk, C, G, T: Texts, L: Link, N: RelayNotices>(
 pub fn logsrvd<
     S: Source,
     K: Sink,
-    P: Port + Drop,
-    D: Disk,
-    C: Clock,
-    G: Tape,
+    P: Port + Send + Drop,
+    D: Disk + Send + Drop,
+    C: Clock + Send + Drop,
+    G: Tape + Send + Drop,
     T: Texts,
     L: Link,
     N: Notices + RelayNotices,
-    F: LineWriter + Drop,
-    J: LineWriter + Drop,
-    H: Search + Drop,
+    B: Bell + Sync + Drop,
+    F: LineWriter + Sync + Drop,
+    J: LineWriter + Sync + Drop,
+    H: Search + Sync + Drop,
+    R: Threads + Wait + Sync,
 >(
+    rt: &R,
     alloc: Global,
     words: &List<Bytes>,
-    out: Outside<S, K, P, D, C, G, T, L, N>,
+    out: Outside<S, K, P, D, C, G, T, L, N, B>,
     kept: Kept<F, J, H>,
-) -> (Outside<S, K, P, D, C, G, T, L, N>, Status)
+) -> (Outside<S, K, P, D, C, G, T, L, N, B>, Status)
     requires sudo { kept.sudo.kind ≡ kinds.Sudo }
     requires json { kept.json.kind ≡ kinds.Json }
-    requires fresh { D.tells → IsFresh 0 1 (D.view out.disk) }
-    requires few { length out.ports.items ≤ 64 }
+    requires fresh { D.tells → (a : Asked) → Asks words.now a → AreFreshBays (bay_by ⟦<D as Disk>⟧ ⟦<G as Tape>⟧) (lanes_by a) (bays_of out.disk out.clock out.tape out.others.items) }
+    requires bays { (o : told.Options) → Asks words.now (Serve o) → o.lanes ≤ 1 + length out.others.items }
+    requires ports { (1 ≤ length out.ports.items) × (length out.ports.items ≤ 64) }
     requires idle { P.tells → (i : ℕ) (port : P) → slice_get out.ports.items i ≡ Some port → IsUnopened (P.state port) }
     ensures usage { result.1 ≡ Status.Usage → (a : Asked) → Asks words.now a → ⊥ }
     ensures other_words { ((a : Asked) → Asks words.now a → ⊥) → (result.1 ≡ Status.Usage) ⊎ (result.1 ≡ Status.NoMem) }
     ensures unchanged { ((a : Asked) → Asks words.now a → ⊥) → result.0 ≡ out }
-    ensures unserved { (line : ℕ) → result.1 ≡ Status.Conf line → (result.0.source ≡ out.source) × (result.0.sink ≡ out.sink) × (result.0.disk ≡ out.disk) × (result.0.clock ≡ out.clock) × (result.0.tape ≡ out.tape) }
+    ensures unserved { (line : ℕ) → result.1 ≡ Status.Conf line → (result.0.source ≡ out.source) × (result.0.sink ≡ out.sink) × (result.0.disk ≡ out.disk) × (result.0.clock ≡ out.clock) × (result.0.tape ≡ out.tape) × (result.0.others ≡ out.others) × (result.0.bells ≡ out.bells) }
     ensures once { (o : told.Options) → Asks words.now (Once o) → AsFound T.tells o.conf (T.texts out.texts) (λ found. OnceAs found (T.faults out.texts) (T.faults result.0.texts)
         (world_of ⟦<S as Source>⟧ ⟦<K as Sink>⟧ ⟦<D as Disk>⟧ ⟦<G as Tape>⟧ out.source out.sink out.disk out.tape)
         (world_of ⟦<S as Source>⟧ ⟦<K as Sink>⟧ ⟦<D as Disk>⟧ ⟦<G as Tape>⟧ result.0.source result.0.sink result.0.disk result.0.tape) result.1) }
-    ensures serves { (o : told.Options) → Asks words.now (Serve o) → AsFound T.tells o.conf (T.texts out.texts) (λ found. ServesAs o.stop_after found (T.faults out.texts) (T.faults result.0.texts)
-        (server_of ⟦<P as Port>⟧ ⟦<D as Disk>⟧ ⟦<G as Tape>⟧ out.ports.items out.disk out.tape)
-        (server_of ⟦<P as Port>⟧ ⟦<D as Disk>⟧ ⟦<G as Tape>⟧ result.0.ports.items result.0.disk result.0.tape) result.1) }
+    ensures serves { (o : told.Options) → Asks words.now (Serve o) → AsFound T.tells o.conf (T.texts out.texts) (λ found. ServesAs o.lanes o.stop_after found (T.faults out.texts) (T.faults result.0.texts)
+        (server_of ⟦<P as Port>⟧ ⟦<D as Disk>⟧ ⟦<G as Tape>⟧ out.ports.items (bays_of out.disk out.clock out.tape out.others.items))
+        (server_of ⟦<P as Port>⟧ ⟦<D as Disk>⟧ ⟦<G as Tape>⟧ result.0.ports.items (bays_of result.0.disk result.0.clock result.0.tape result.0.others.items)) result.1) }
     ensures loads { (o : told.Options) (count : ℕ) → Asks words.now (Load o count) → AsFound T.tells o.conf (T.texts out.texts) (λ found. LoadsAs G.tells D.view found (T.faults out.texts) (T.faults result.0.texts) count
         (world_of ⟦<S as Source>⟧ ⟦<K as Sink>⟧ ⟦<D as Disk>⟧ ⟦<G as Tape>⟧ out.source out.sink out.disk out.tape)
         (world_of ⟦<S as Source>⟧ ⟦<K as Sink>⟧ ⟦<D as Disk>⟧ ⟦<G as Tape>⟧ result.0.source result.0.sink result.0.disk result.0.tape)
         out.disk result.0.disk (G.turns out.tape) (G.turns result.0.tape) result.1) }
     ensures relays { (o : told.Options) → Asks words.now (Relay o) → AsFound T.tells o.conf (T.texts out.texts) (λ found. RelaysAs D.view found (T.faults out.texts) (T.faults result.0.texts)
         (relay_of ⟦<D as Disk>⟧ ⟦<L as Link>⟧ out.disk out.link) (relay_of ⟦<D as Disk>⟧ ⟦<L as Link>⟧ result.0.disk result.0.link) result.1) }
-    ensures beside_once { (o : told.Options) → Asks words.now (Once o) → (result.0.ports ≡ out.ports) × (result.0.link ≡ out.link) }
+    ensures beside_once { (o : told.Options) → Asks words.now (Once o) → (result.0.ports ≡ out.ports) × (result.0.link ≡ out.link) × (result.0.others ≡ out.others) × (result.0.bells ≡ out.bells) }
     ensures beside_serve { (o : told.Options) → Asks words.now (Serve o) → (result.0.source ≡ out.source) × (result.0.sink ≡ out.sink) × (result.0.link ≡ out.link) }
-    ensures beside_load { (o : told.Options) (count : ℕ) → Asks words.now (Load o count) → (result.0.source ≡ out.source) × (result.0.ports ≡ out.ports) × (result.0.link ≡ out.link) }
-    ensures beside_relay { (o : told.Options) → Asks words.now (Relay o) → (result.0.source ≡ out.source) × (result.0.sink ≡ out.sink) × (result.0.ports ≡ out.ports) × (result.0.clock ≡ out.clock) × (result.0.tape ≡ out.tape) }
+    ensures beside_load { (o : told.Options) (count : ℕ) → Asks words.now (Load o count) → (result.0.source ≡ out.source) × (result.0.ports ≡ out.ports) × (result.0.link ≡ out.link) × (result.0.others ≡ out.others) × (result.0.bells ≡ out.bells) }
+    ensures beside_relay { (o : told.Options) → Asks words.now (Relay o) → (result.0.source ≡ out.source) × (result.0.sink ≡ out.sink) × (result.0.ports ≡ out.ports) × (result.0.clock ≡ out.clock) × (result.0.tape ≡ out.tape) × (result.0.others ≡ out.others) × (result.0.bells ≡ out.bells) }
 {
     let command = match command_of(alloc, words) {
         Ok(command) => command,
@@ -331,7 +353,7 @@ pub fn logsrvd<
     };
     match command {
         Command::Once(opts) => once(alloc, &opts, out, kept),
-        Command::Serve(opts) => serve(alloc, &opts, out, kept),
+        Command::Serve(opts) => serve(rt, alloc, &opts, out, kept),
         Command::Load(opts, count) => load(alloc, &opts, count, out, kept),
         Command::Relay(opts) => {
             let mut out = out;

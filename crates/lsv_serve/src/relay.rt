@@ -16,16 +16,16 @@ use std::alloc::Global;
 
 /// Sends each complete log of the store that isn't marked as relayed to the server that the settings name, by rising number, each
 /// on a connection of its own. Files of relaying alone are changed.
-pub fn run_relay<S, K, P, D: Disk, C, G, T, L: Link, N: RelayNotices>(
+pub fn run_relay<S, K, P, D: Disk, C, G, T, L: Link, N: RelayNotices, B>(
     alloc: Global,
     options: &Options,
-    out: &mut Outside<S, K, P, D, C, G, T, L, N>,
+    out: &mut Outside<S, K, P, D, C, G, T, L, N, B>,
 ) -> Status
     ensures runs { RunsRelay D.view options.now.upstream (relay_of ⟦<D as Disk>⟧ ⟦<L as Link>⟧ out.old.disk out.old.link) (relay_of ⟦<D as Disk>⟧ ⟦<L as Link>⟧ out.new.disk out.new.link) result }
     ensures rests { D.tells → RestsStore (D.view out.old.disk) (D.view out.new.disk) }
     ensures places { D.tells → HasPlacesAt options.now.logs options.now.events (D.view out.old.disk) (D.view out.new.disk) result }
     ensures read { (line : ℕ) → result ≡ Status.Conf line → ⊥ }
-    ensures others { (out.new.source ≡ out.old.source) × (out.new.sink ≡ out.old.sink) × (out.new.ports ≡ out.old.ports) × (out.new.clock ≡ out.old.clock) × (out.new.tape ≡ out.old.tape) × (out.new.texts ≡ out.old.texts) }
+    ensures others { (out.new.source ≡ out.old.source) × (out.new.sink ≡ out.old.sink) × (out.new.ports ≡ out.old.ports) × (out.new.clock ≡ out.old.clock) × (out.new.tape ≡ out.old.tape) × (out.new.texts ≡ out.old.texts) × (out.new.others ≡ out.old.others) × (out.new.bells ≡ out.old.bells) }
 {
     let Some(host) = &options.upstream else {
         return Status::NoUpstream;

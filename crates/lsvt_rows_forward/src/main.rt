@@ -13,6 +13,8 @@ use lsv_link::Cut;
 use std::alloc::Global;
 use std::io::{BufRead, BufReader};
 use std::process::ExitCode;
+use std::sync::Wait;
+use std::thread::Threads;
 
 /// The bytes of digits, of which there may be none.
 fn bytes_of(alloc: Global, digits: &str) -> Result<Bytes> {
@@ -33,7 +35,12 @@ fn add_answer(alloc: Global, world: &mut World, words: &str) -> Result<()> {
 }
 
 /// Does what a line says. One of another form is printed as it is.
-fn answer(rt: &HostRuntime, world: &mut World, line: &str) -> Result<()> {
+fn answer<R: Threads + Wait + Sync>(
+    rt: &HostRuntime,
+    threads: &R,
+    world: &mut World,
+    line: &str,
+) -> Result<()> {
     let alloc = rt.alloc();
     let (word, rest) = line.split_once(' ').unwrap_or((line, ""));
     match word {
@@ -42,22 +49,22 @@ fn answer(rt: &HostRuntime, world: &mut World, line: &str) -> Result<()> {
         "session" => world.add_piece(bytes_of(alloc, rest)?)?,
         "answer" => add_answer(alloc, world, rest)?,
         "fail" => world.fail(rest.parse::<u64>()?)?,
-        "run" => run::show(rt, world, rest)?,
+        "run" => run::show(rt, threads, world, rest)?,
         _ => println!(rt; "{line}")?,
     }
     Ok(())
 }
 
-fn answer_all(rt: &HostRuntime) -> Result<()> {
+fn answer_all<R: Threads + Wait + Sync>(rt: &HostRuntime, threads: &R) -> Result<()> {
     let mut world = World::new(rt.alloc())?;
     for line in BufReader::new(rt.alloc(), rt.reader())?.lines(rt.alloc()) {
-        answer(rt, &mut world, line?.as_str())?;
+        answer(rt, threads, &mut world, line?.as_str())?;
     }
     Ok(())
 }
 
 fn main(rt: HostRuntime) -> ExitCode {
-    match answer_all(&rt) {
+    match answer_all(&rt, &rt) {
         Ok(()) => ExitCode::SUCCESS,
         Err(e) => {
             let _ = eprintln!(rt; "lsvt_rows_forward: {e}");

@@ -1,19 +1,23 @@
 //! Runs of the program, and what becomes of its outside.
 
-ghost use Rattle.std.specs.Prelude.{◌≡◌, [], IfOk};
+ghost use Rattle.std.specs.Prelude.{◌≡◌, length, IfOk};
 
 use crate::outside::{Heard, Still};
 use crate::show::show_all;
 use anyhow::{Result, anyhow};
 use lsv_base::{Bytes, List, MemSink, MemSource, MemTexts, NoMem, Text};
 use lsv_hook::{Formatter, JsonLines, SudoLines};
+use lsv_lane::Bay;
 use lsv_link::{Cut, MemLink};
 use lsv_mask::{Prompt, TextSearch};
-use lsv_serve::{Kept, Outside, logsrvd};
+use lsv_port::{MemPort, NoBell};
+use lsv_serve::{Kept, Outside, logsrvd, words_ask_for_few_lanes};
 use lsv_turn::NoTape;
 use lsvt_doubles::{Hostile, Plan, Watched};
 use std::alloc::Global;
 use std::mem;
+use std::sync::Wait;
+use std::thread::Threads;
 
 /// The path of the settings file.
 const CONF: &str = "conf";
@@ -29,6 +33,7 @@ pub type MemOutside = Outside<
     MemTexts,
     MemLink,
     Heard,
+    NoBell,
 >;
 
 /// What the runs over a store have in common: the store and the settings file; and what the next run has.
@@ -122,9 +127,23 @@ fn words_of(alloc: Global, line: &str) -> Result<List<Bytes>, NoMem> {
     Ok(List::from_vec(words))
 }
 
-/// What a run stands in. The store is taken for it.
+/// What a lane after lane 0 works with: its disk is empty.
+fn bay(alloc: Global) -> Result<Bay<Hostile, Still, NoTape>> {
+    Ok(Bay {
+        disk: empty(alloc)?,
+        clock: Still,
+        tape: NoTape,
+    })
+}
+
+/// A port over which nothing comes.
+fn port(alloc: Global) -> Watched {
+    Watched::new(alloc, MemPort::new(alloc, Vec::new(alloc)))
+}
+
+/// What a run stands in, with the bays of four lanes. The store of lane 0 is taken for it.
 fn outside(world: &mut World) -> Result<MemOutside>
-    ensures { IfOk result (λ out. out.ports.items ≡ []) }
+    ensures { IfOk result (λ out. (length out.ports.items ≡ 1) × (length out.others.items ≡ 3)) }
 {
     let alloc = world.alloc;
     let texts = world.texts()?;
@@ -134,10 +153,12 @@ fn outside(world: &mut World) -> Result<MemOutside>
     Ok(Outside {
         source: MemSource::new(alloc, pieces, Vec::new(alloc)),
         sink: MemSink::new(alloc, Vec::new(alloc)),
-        ports: Vec::new(alloc),
+        ports: vec![in alloc; port(alloc)]?,
+        bells: Vec::new(alloc),
         disk,
         clock: Still,
         tape: NoTape,
+        others: vec![in alloc; bay(alloc)?, bay(alloc)?, bay(alloc)?]?,
         texts,
         link,
         notices: Heard {
@@ -148,7 +169,12 @@ fn outside(world: &mut World) -> Result<MemOutside>
 }
 
 /// Runs the program, and prints what it put on its connections, what it reported, and how it ended.
-pub fn show(rt: &HostRuntime, world: &mut World, line: &str) -> Result<()> {
+pub fn show<R: Threads + Wait + Sync>(
+    rt: &HostRuntime,
+    threads: &R,
+    world: &mut World,
+    line: &str,
+) -> Result<()> {
     let alloc = rt.alloc();
     let words = words_of(alloc, line)?;
     let out = outside(world)?;
@@ -157,7 +183,8 @@ pub fn show(rt: &HostRuntime, world: &mut World, line: &str) -> Result<()> {
         json: Formatter::json(),
         prompt: Prompt::new(TextSearch),
     };
-    let (out, status) = logsrvd(alloc, &words, out, kept);
+    words_ask_for_few_lanes(&words);
+    let (out, status) = logsrvd(threads, alloc, &words, out, kept);
     show_all(rt, &out, status)?;
     world.disk = out.disk;
     Ok(())

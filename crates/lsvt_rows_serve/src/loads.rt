@@ -7,11 +7,11 @@ use crate::outside::Still;
 use anyhow::{Result, anyhow};
 use lsv_base::List;
 use lsv_hook::Formatter;
+use lsv_keeper::Policy;
 use lsv_lane::Bay;
 use lsv_load::{LoadEnd, run_load};
 use lsv_mask::{Prompt, TextSearch};
 use lsv_seq::Numbers;
-use lsv_service::Plan;
 use lsv_turn::NoTape;
 use lsvt_doubles::{Hostile, Plan as Fate};
 use std::alloc::Global;
@@ -66,7 +66,7 @@ impl Loads {
         requires first { 1 ≤ count }
         requires last { count ≤ 10000 }
     {
-        let plan = Plan {
+        let policy = Policy {
             formatter: Formatter::sudo(),
             log_exit: false,
             texts: List::new(alloc),
@@ -78,7 +78,7 @@ impl Loads {
             clock: Still,
             tape: NoTape,
         };
-        let (bay, end) = run_load(alloc, count, bay, plan);
+        let (bay, end) = run_load(alloc, count, bay, policy);
         self.disk = bay.disk;
         Ok(end)
     }

@@ -2,6 +2,7 @@
 //! README.md says which lines there are.
 #![tactic(auto)]
 
+mod alone;
 mod disk;
 mod loads;
 mod names;
@@ -57,11 +58,9 @@ impl Setting {
             "load" => self.loads.answer(rt, rest),
             "let" => self.names.add(alloc, rest),
             "times" => self.names.multiply(alloc, rest),
-            "conf" => self.world.add_line(alloc, rest),
-            "unreadable" => Ok(self.world.is_unreadable = true),
             "mend" => disk::mend(&mut self.world, alloc),
             "faulty" => disk::fail_sync(&mut self.world, alloc, rest),
-            "run" => run::show(rt, &mut self.world, self.scripts.take(alloc), rest),
+            "run" => run::show(rt, &mut self.world, self.scripts.take(alloc)),
             _ if self.scripts.add(alloc, &self.names, word, rest)? => Ok(()),
             _ => Ok(println!(rt; "{line}")?),
         }

@@ -1,11 +1,10 @@
 //! What is printed of a run.
 
-use crate::outside::Told;
-use crate::run::MemOutside;
-use crate::tape::show_tape;
+use crate::alone::Left;
+use crate::tape::{Jobs, show_jobs};
 use anyhow::{Result, anyhow};
 use lsv_base::LogNo;
-use lsv_iolog::{LogFault, LogView};
+use lsv_iolog::{LogView, ViewFault};
 use lsv_record::Record;
 use lsv_serve::Status;
 use lsvt_doubles::{Hostile, Watched};
@@ -28,26 +27,15 @@ fn shown(alloc: Global, bytes: &[u8], most: usize) -> Result<String> {
     Ok(format!(in alloc; "{} bytes {digits}", bytes.len())?)
 }
 
-/// Prints what a server told at its start.
-fn show_told(rt: &HostRuntime, told: &Told) -> Result<()> {
-    let address = str::from_utf8(told.address.as_slice()).map_err(|_| anyhow!("no text"))?;
-    let logs = str::from_utf8(told.logs.as_slice()).map_err(|_| anyhow!("no text"))?;
-    let last = told.last;
-    match told.stop_after {
-        Some(count) => println!(rt; "serves {address} logs {logs} last {last} until {count}")?,
-        None => println!(rt; "serves {address} logs {logs} last {last}")?,
-    }
-    Ok(())
-}
-
 /// Prints of each link of a port how many bytes were read of it, and those that were put on it.
 fn show_port(rt: &HostRuntime, place: usize, watched: &Watched) -> Result<()> {
+    let alloc = rt.alloc();
     if watched.misused > 0 {
         println!(rt; "port {place} misused")?;
     }
     let port = &watched.port;
     for link in port.opened() {
-        let put = shown(rt.alloc(), port.output(*link), MOST_PUT)?;
+        let put = shown(alloc, port.output(*link), MOST_PUT)?;
         let read = port.input(*link).len();
         let open = if port.is_open(*link) { ", open" } else { "" };
         println!(rt; "link {place}.{link} read {read}, put {put}{open}")?;
@@ -82,13 +70,12 @@ fn text_of(alloc: Global, records: &[Record]) -> Result<Vec<u8>> {
     Ok(text)
 }
 
-/// Prints a log: how many records are read of it, to which point, how often it was cut, whether it has its exit, and what of it
-/// was shown. False where there is no such log.
-fn show_log(rt: &HostRuntime, disk: &mut Hostile, number: LogNo) -> Result<bool> {
-    let alloc = rt.alloc();
+/// What is printed of a log: how many records are read of it, to which point, how often it was cut, whether it has its exit, and
+/// what of it was shown. None if there is no such log.
+fn log_text(alloc: Global, disk: &mut Hostile, number: LogNo) -> Result<Option<String>> {
     let mut view = match LogView::open(alloc, disk, number) {
         Ok(view) => view,
-        Err(LogFault::Absent) => return Ok(false),
+        Err(ViewFault::Absent) => return Ok(None),
         Err(fault) => return Err(fault.into()),
     };
     let body = view.body();
@@ -102,21 +89,23 @@ fn show_log(rt: &HostRuntime, disk: &mut Hostile, number: LogNo) -> Result<bool>
     } else {
         "open"
     };
-    println!(rt;
-        "log {} records {} to {elapsed}, cuts {}, {end}, {text}",
-        number.get(),
+    Ok(Some(format!(in alloc;
+        "records {} to {elapsed}, cuts {}, {end}, {text}",
         records.len(),
         body.extra
-    )?;
-    Ok(true)
+    )?))
 }
 
-/// Prints the logs of a store from the first on, up to one that isn't there.
+/// The most logs of a store that are looked for.
+const MOST_LOGS: u32 = 100_000;
+
+/// Prints the logs of a store of one lane from the first on, up to one that isn't there.
 fn show_logs(rt: &HostRuntime, disk: &mut Hostile) -> Result<()> {
-    for n in 1..100_000u32 {
+    for n in 1..MOST_LOGS {
         let number = LogNo::new(n).ok_or(anyhow!("a number"))?;
-        if !show_log(rt, disk, number)? {
-            return Ok(());
+        match log_text(rt.alloc(), disk, number)? {
+            Some(text) => println!(rt; "log {n} {text}")?,
+            None => return Ok(()),
         }
     }
     Ok(())
@@ -130,17 +119,12 @@ fn show_status(rt: &HostRuntime, status: Status) -> Result<()> {
     Ok(())
 }
 
-/// Prints what a run told, put and kept, how it ended, and what the store holds.
-pub fn show_all(rt: &HostRuntime, out: &mut MemOutside, status: Status) -> Result<()> {
-    for told in &out.notices.told {
-        show_told(rt, told)?;
-    }
-    let mut place = 0usize;
-    for port in &out.ports {
-        show_port(rt, place, port)?;
-        place = place.saturating_add(1);
-    }
-    show_tape(rt, &out.tape)?;
-    show_status(rt, status)?;
-    show_logs(rt, &mut out.disk)
+/// Prints what a run on one thread put and kept, how it ended, and what the store holds.
+pub fn show_alone(rt: &HostRuntime, left: &mut Left) -> Result<()> {
+    show_port(rt, 0, &left.port)?;
+    let mut jobs = Jobs::new(rt.alloc());
+    jobs.add_tape(&left.tape)?;
+    show_jobs(rt, &mut jobs)?;
+    show_status(rt, left.status)?;
+    show_logs(rt, &mut left.disk)
 }

@@ -82,26 +82,46 @@ impl Brought {
     }
 }
 
-/// Adds a job to those of its connection.
-fn add(alloc: Global, all: &mut Vec<Brought>, job: &Job) -> Result<()> {
-    if !all.iter().any(|brought| brought.conn == job.conn) {
-        all.push(Brought::new(alloc, job.conn))?;
-    }
-    let its = all.iter_mut().find(|brought| brought.conn == job.conn);
-    its.ok_or(anyhow!("a connection"))?.add(alloc, job)
+/// The jobs of each connection, in the order in which the connections came.
+#[derive(Drop)]
+pub struct Jobs {
+    alloc: Global,
+    all: Vec<Brought>,
 }
 
-/// Prints the jobs of each connection, in the order in which the connections came.
-pub fn show_tape(rt: &HostRuntime, tape: &MemTape) -> Result<()> {
-    let alloc = rt.alloc();
-    let mut all = Vec::new(alloc);
-    for turn in tape.turns() {
-        for job in turn.jobs.as_slice() {
-            add(alloc, &mut all, job)?;
+impl Jobs {
+    /// None yet.
+    pub fn new(alloc: Global) -> Self {
+        Jobs {
+            alloc,
+            all: Vec::new(alloc),
         }
     }
-    for brought in &mut all {
-        brought.settle(alloc)?;
+
+    /// Adds a job to those of its connection.
+    fn add(&mut self, job: &Job) -> Result<()> {
+        if !self.all.iter().any(|brought| brought.conn == job.conn) {
+            self.all.push(Brought::new(self.alloc, job.conn))?;
+        }
+        let its = self.all.iter_mut().find(|brought| brought.conn == job.conn);
+        its.ok_or(anyhow!("a connection"))?.add(self.alloc, job)
+    }
+
+    /// Adds those of a tape.
+    pub fn add_tape(&mut self, tape: &MemTape) -> Result<()> {
+        for turn in tape.turns() {
+            for job in turn.jobs.as_slice() {
+                self.add(job)?;
+            }
+        }
+        Ok(())
+    }
+}
+
+/// Prints the jobs of each connection.
+pub fn show_jobs(rt: &HostRuntime, jobs: &mut Jobs) -> Result<()> {
+    for brought in &mut jobs.all {
+        brought.settle(jobs.alloc)?;
         println!(rt;
             "jobs {}.{}{}",
             brought.conn.worker, brought.conn.seq, brought.words

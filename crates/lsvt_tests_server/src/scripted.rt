@@ -1,11 +1,15 @@
-//! An endpoint whose messages are fixed beforehand, and a clock that stands still.
+//! An endpoint whose messages are fixed beforehand, a clock that stands still, and a tape that counts.
 
+ghost use Rattle.std.specs.Prelude.{◌<◌, []};
+ghost use Rattle.lsv_worker.specs.Frames.{InboxKeeps, PutsOwn};
 ghost use Rattle.lsvt_tests_server.specs.Nothing.{no_port};
 
-use lsv_base::{Clock, TimeSpec};
+use lsv_base::{Clock, NoMem, TimeSpec};
+use lsv_queue::Gap;
 use lsv_reactor::{Endpoint, EndpointEnd};
 use lsv_service::{Notices, Site};
 use lsv_session::{Body, ConnId, Job, Reply, ReplyBody};
+use lsv_turn::Tape;
 use lsv_worker::Inbox;
 
 /// A clock that stands still.
@@ -18,6 +22,28 @@ impl Clock for Still {
             sec: 1_700_000_000,
             nsec: 0,
         }
+    }
+}
+
+/// A tape that counts the jobs of the turns.
+#[derive(Drop)]
+pub(crate) struct Counted {
+    pub jobs: usize,
+}
+
+impl Tape for Counted {
+    ghost tells = { ⊥ };
+
+    ghost turns = { λ _. [] };
+
+    ghost has_room = { λ _ _. Unit {0} };
+
+    fn room(&mut self, _jobs: &[Job]) -> Result<(), NoMem> {
+        Ok(())
+    }
+
+    fn keep(&mut self, jobs: &[Job], _now: TimeSpec, _gap: Option<Gap<Job>>) {
+        self.jobs = self.jobs.saturating_add(jobs.len());
     }
 }
 
@@ -44,6 +70,23 @@ pub(crate) struct Scripted {
     pub is_shut: bool,
 }
 
+/// Puts a job of this worker's first connection. One that is refused is lost.
+fn put_one<I: Inbox>(worker: u32, body: Body, inbox: &mut I)
+    requires lanes { 0 < I.lanes inbox.old }
+    ensures own { PutsOwn worker (I.jobs inbox.old) (I.jobs inbox.new) }
+    ensures keeps { InboxKeeps I.lanes I.refused I.is_same inbox.old inbox.new }
+{
+    let conn = ConnId { worker, seq: 1 };
+    match inbox.put(0, Job { conn, body }) {
+        Ok(()) => {
+            return;
+        }
+        Err(_) => {
+            return;
+        }
+    }
+}
+
 impl Endpoint for Scripted {
     ghost tells = { ⊥ };
 
@@ -67,11 +110,7 @@ impl Endpoint for Scripted {
 
     fn wait<I: Inbox>(&mut self, inbox: &mut I) {
         if let Some(body) = self.bodies.pop() {
-            let conn = ConnId {
-                worker: self.number,
-                seq: 1,
-            };
-            let _ = inbox.put(0, Job { conn, body });
+            put_one(self.number, body, inbox);
         }
     }
 

@@ -31,9 +31,9 @@ pub fn advise(rt: &HostRuntime, fault: StoreFault, conf: &Conf) {
                 );
             }
         },
-        StoreFault::LanesDiffer { kept, .. } => {
+        StoreFault::LanesDiffer { kept, asked } => {
             let _ = eprintln!(rt;
-                "sudo_logsrvd: {dir}/seq2: the store is of {kept} lanes: start the server with so many"
+                "sudo_logsrvd: {dir}/seq2: the store was made with --lanes {kept}, and {asked} is asked for: start the server with --lanes {kept}, or let iolog_dir be a new folder and path of [logfile] a new file"
             );
         }
         StoreFault::Device(_) | StoreFault::NoMem => {}

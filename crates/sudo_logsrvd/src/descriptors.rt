@@ -1,6 +1,5 @@
-//! Whether the limit of open files suffices, as it is told at the start of a server.
+//! Whether the limit of open files suffices for a server, as it is told at its start.
 
-use lsv_base::{Bytes, List};
 use lsv_real_disk::{clients_within, most_descriptors};
 use lsv_serve::Status;
 
@@ -10,34 +9,28 @@ const CLIENTS: u64 = 128;
 /// This many descriptors let all of them be served.
 const ENOUGH: u64 = 704;
 
-/// If the words are those of a server, says on standard error whether the limit of open files lets it serve fewer clients than it
-/// may. `PortFault` if it can't serve one.
-pub fn check(rt: &HostRuntime, words: &List<Bytes>) -> Result<(), Status> {
-    if !is_server(words) {
-        return Ok(());
-    }
-    let limit = most_descriptors();
-    match clients_within(limit) {
-        0 => {
-            let _ = eprintln!(rt;
-                "sudo_logsrvd: the limit of open files is {limit}: not one client can be served; {CLIENTS} need {ENOUGH} (ulimit -n {ENOUGH}, or LimitNOFILE= of the unit)"
-            );
-            Err(Status::PortFault)
-        }
-        clients if clients < CLIENTS => {
-            let _ = eprintln!(rt;
-                "sudo_logsrvd: warning: the limit of open files is {limit}: at most {clients} of {CLIENTS} clients are served at once; all need {ENOUGH} (ulimit -n {ENOUGH}, or LimitNOFILE= of the unit)"
-            );
-            Ok(())
-        }
-        _ => Ok(()),
-    }
-}
+/// This many descriptors let one client be served by one lane, and this many more are needed for each further lane: the four
+/// ports have four each, and a lane sixteen files.
+const FEWEST: u64 = 48;
 
-/// Whether the first of the words is the command `serve`.
-fn is_server(words: &List<Bytes>) -> bool {
-    match words.as_slice() {
-        [first, ..] => first.as_slice() == b"serve".as_slice(),
-        [] => false,
+const FOR_LANE: u64 = 20;
+
+/// Says on standard error whether the limit of open files lets a server of this many lanes serve fewer clients than it may.
+/// `PortFault` if it can't serve one.
+pub fn check(rt: &HostRuntime, lanes: u32) -> Result<(), Status> {
+    let limit = most_descriptors();
+    let fewest = FEWEST + u64::from(lanes.saturating_sub(1)) * FOR_LANE;
+    if limit < fewest {
+        let _ = eprintln!(rt;
+            "sudo_logsrvd: the limit of open files is {limit}: not one client can be served; {CLIENTS} need {ENOUGH} (ulimit -n {ENOUGH}, or LimitNOFILE= of the unit)"
+        );
+        return Err(Status::PortFault);
     }
+    let clients = clients_within(limit);
+    if clients < CLIENTS {
+        let _ = eprintln!(rt;
+            "sudo_logsrvd: warning: the limit of open files is {limit}: at most {clients} of {CLIENTS} clients are served at once; all need {ENOUGH} (ulimit -n {ENOUGH}, or LimitNOFILE= of the unit)"
+        );
+    }
+    Ok(())
 }

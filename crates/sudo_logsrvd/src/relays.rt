@@ -6,7 +6,7 @@ use lsv_bundle::BundleFault;
 use lsv_dialogue::Cause;
 use lsv_disk::Part;
 use lsv_forward::{Outcome, RelayNotices};
-use lsv_iolog::LogFault;
+use lsv_iolog::ViewFault;
 use lsv_relay::RelayFault;
 use std::io::IsTerminal;
 use std::str;
@@ -83,7 +83,7 @@ fn say_cause(rt: &HostRuntime, log: &str, cause: &Cause) {
 /// Says which file of a log, or of what is kept of its relaying, is at fault. A call that failed was reported by the disk.
 fn say_fault(rt: &HostRuntime, log: &str, fault: &RelayFault) {
     let _ = match fault {
-        RelayFault::Log(LogFault::Damaged(part)) => {
+        RelayFault::Log(ViewFault::Damaged(part)) => {
             let name = name_of(*part);
             eprintln!(rt;
                 "sudo_logsrvd: {log}: {name} is damaged: this log is not relayed; put its folder back from a copy, or remove it"
@@ -95,7 +95,7 @@ fn say_fault(rt: &HostRuntime, log: &str, fault: &RelayFault) {
         RelayFault::State(BundleFault::Full(_)) => eprintln!(rt;
             "sudo_logsrvd: {log}: what is kept of its relaying is full: remove relay, relay.slots and relay.commit in its folder, and the next run sends it anew"
         ),
-        RelayFault::Incomplete | RelayFault::Log(LogFault::Absent) => eprintln!(rt;
+        RelayFault::Incomplete | RelayFault::Log(ViewFault::Absent) => eprintln!(rt;
             "sudo_logsrvd: {log}: it was removed or changed while it was read: the next run looks again"
         ),
         _ => eprintln!(rt;

@@ -3,14 +3,12 @@
 ghost use Rattle.std.specs.Prelude.{◌≡◌};
 
 use lsv_base::{Bytes, TextFault, Texts};
-use lsv_conf::{
-    Conf, ConfFault, Refused, RefusedLine, Values, WrongValue, read_conf, refused_lines,
-};
+use lsv_conf::{Conf, ConfFault, Refusals, Refused, RefusedLine, Values, WrongValue, read_conf};
 use std::alloc::Global;
 use std::str;
 
-/// This many refused lines are named, so that a file of another kind doesn't fill the journal.
-const MOST_NAMED: usize = 50;
+/// This many refused lines are named after the first, so that a file of another kind doesn't fill the journal.
+const MOST_MORE: usize = 49;
 
 /// Settings files as they are. Of each that is read it is told on standard error which keys are passed over and which lines
 /// are refused, by its path and the line.
@@ -39,7 +37,7 @@ impl<T> ToldTexts<T> {
                 }
                 self.conf = Some(conf);
             }
-            Err(ConfFault::Line(_)) => tell_refused(&self.rt, alloc, path, text),
+            Err(ConfFault::Refused(refused)) => tell_refused(&self.rt, path, &refused),
             Err(ConfFault::NoMem) => {}
         }
     }
@@ -77,18 +75,16 @@ impl<T: Texts> Texts for ToldTexts<T> {
     }
 }
 
-/// Says of each refused line of a text why it is refused.
-fn tell_refused(rt: &HostRuntime, alloc: Global, path: &str, text: &[u8]) {
-    let Ok(lines) = refused_lines(alloc, text) else {
-        return;
-    };
-    let lines = lines.as_slice();
-    for refused in lines.iter().take(MOST_NAMED) {
-        tell_line(rt, path, refused);
+/// Says of each refused line why it is refused.
+fn tell_refused(rt: &HostRuntime, path: &str, refused: &Refusals) {
+    tell_line(rt, path, &refused.first);
+    let more = refused.more.as_slice();
+    for line in more.iter().take(MOST_MORE) {
+        tell_line(rt, path, line);
     }
-    if lines.len() > MOST_NAMED {
-        let more = lines.len() - MOST_NAMED;
-        let _ = eprintln!(rt; "sudo_logsrvd: {path}: {more} more lines are refused");
+    if more.len() > MOST_MORE {
+        let left = more.len() - MOST_MORE;
+        let _ = eprintln!(rt; "sudo_logsrvd: {path}: {left} more lines are refused");
     }
 }
 

@@ -1,5 +1,6 @@
 //! What is said of words that are no command.
 
+use lsv_args::MOST_LANES;
 use lsv_base::{Bytes, List};
 use std::str;
 
@@ -24,9 +25,7 @@ enum Trouble<'w> {
     Further(&'w str),
 }
 
-/// How many lanes may be asked for, and how many connections of a load and of a server.
-const MOST_LANES: i64 = 1;
-
+/// This many connections of a load and of a server may be asked for.
 const MOST_LOADED: i64 = 10_000;
 
 const MOST_SERVED: i64 = u32::MAX as i64;

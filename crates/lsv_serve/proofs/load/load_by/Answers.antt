@@ -5,7 +5,7 @@ use Rattle.lsv_serve.proofs.StartLemmas.{fresh_after}
 use Rattle.lsv_serve.proofs.load.load_by.Goals as goal
 
 pub run_load-bay-requires-clause-fresh : goal.run_load-bay-requires-clause-fresh
-run_load-bay-requires-clause-fresh g c = λ told. fresh_after _ _ (c.store_of-bay.ensures.frame.untouched told) (c.requires.fresh told)
+run_load-bay-requires-clause-fresh g c = λ told. fresh_after _ _ (c.store_of-bay.ensures.frame.untouched told) 0 1 (c.requires.fresh told)
 
 pub returns-clause-runs : goal.returns-clause-runs
 returns-clause-runs g c =

@@ -7,7 +7,7 @@ use Rattle.lsv_serve.proofs.StartLemmas.{cause_before, fresh_after, may_serve_ag
 use Rattle.lsv_serve.proofs.once.serve_by.Goals as goal
 
 pub serve_once-bay-requires : goal.serve_once-bay-requires
-serve_once-bay-requires g c = record { fresh = λ told. fresh_after _ _ (c.store_of-bay.ensures.frame.untouched told) (c.requires.fresh told) }
+serve_once-bay-requires g c = record { fresh = λ told. fresh_after _ _ (c.store_of-bay.ensures.frame.untouched told) 0 1 (c.requires.fresh told) }
 
 pub returns-clause-runs : goal.returns-clause-runs
 returns-clause-runs g c =

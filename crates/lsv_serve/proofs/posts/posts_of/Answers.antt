@@ -23,7 +23,7 @@ loop-port-init g c =
       posts_room = let k = c.in-Ok.ensures.capacity in let n = c.len.ensures in let o = c.args.ports.ok.0 in omega (arith, k, n, o);
       left_room = let k = c.in-Ok-with_capacity.ensures.capacity in let n = c.len-2.ensures in let o = c.args.ports.ok.0 in omega (arith, k, n, o);
       views = rw (posts, left) refl;
-      posts = λ none. rw posts (posts_none (λ post. (setting post.worker).number) (λ post. (setting post.worker).lanes) (λ start post gave took. IsMade g.P.Port.tells g.P.Port.state g.P.Port.ledger start post gave took) (λ post. view_by g.P.Port.state g.P.Port.ledger post.port));
+      posts = λ none. rw posts (posts_none (λ post. (setting post.worker).number) (λ post. (setting post.worker).lanes) (λ start post gave took. IsMade g.P.Port.tells g.P.Port.state g.P.Port.ledger start post gave took) (λ post. view_by g.P.Port.state g.P.Port.ledger post.port) c.args.lanes);
     }
 
 pub seat-requires : goal.seat-requires
@@ -34,6 +34,7 @@ seat-requires g c =
     let a = length-append c.loop-port.yielded (c.in-Some.port ∷ into_iter_items c.next.new.self) in
     let n = c.loop-port.invariant.size in
     record {
+      lanes = c.requires.lanes;
       idle = λ told. c.requires.idle told (length c.loop-port.yielded) c.in-Some.port (subst (λ (x : List g.row.P.Denot). slice_get x (length c.loop-port.yielded) ≡ Some c.in-Some.port) whole (stands_there c.loop-port.yielded c.in-Some.port (into_iter_items c.next.new.self)));
       posts_room = let r = c.loop-port.invariant.posts_room in let o = c.loop-port.posts.ok.0 in omega (arith, all, a, n, r, o);
       left_room = let r = c.loop-port.invariant.left_room in let o = c.loop-port.left.ok.0 in omega (arith, all, a, n, r, o);
@@ -48,7 +49,7 @@ overflow_add-number g c =
 pub loop-port-preserved : goal.loop-port-preserved
 loop-port-preserved g c =
     let steps : into_iter_items c.loop-port.port-iterator ≡ c.in-Some.port ∷ into_iter_items c.next.new.self = c.in-Some.ensures.steps.0 in
-    let s = seated_more (λ post. (setting post.worker).number) (λ post. (setting post.worker).lanes) (λ start post gave took. IsMade g.P.Port.tells g.P.Port.state g.P.Port.ledger start post gave took) (λ post. view_by g.P.Port.state g.P.Port.ledger post.port) (view_by g.P.Port.state g.P.Port.ledger) c.loop-port.yielded c.loop-port.number c.in-Some.port c.loop-port.posts.items c.seat.new.posts.items c.loop-port.left.items c.seat.new.left.items
+    let s = seated_more (λ post. (setting post.worker).number) (λ post. (setting post.worker).lanes) (λ start post gave took. IsMade g.P.Port.tells g.P.Port.state g.P.Port.ledger start post gave took) (λ post. view_by g.P.Port.state g.P.Port.ledger post.port) (view_by g.P.Port.state g.P.Port.ledger) c.args.lanes c.loop-port.yielded c.loop-port.number c.in-Some.port c.loop-port.posts.items c.seat.new.posts.items c.loop-port.left.items c.seat.new.left.items
     c.loop-port.invariant.number c.loop-port.invariant.size c.loop-port.invariant.views c.loop-port.invariant.posts c.seat.ensures.seated in
     record {
       items = append_assoc c.loop-port.yielded (c.in-Some.port ∷ []) (into_iter_items c.next.new.self) ∙ (ap (λ (x : List g.row.P.Denot). c.loop-port.yielded ++ x) (sym steps) ∙ c.loop-port.invariant.items);
@@ -66,7 +67,7 @@ returns-then-is_empty-clause-made g c =
     let empty : into_iter_items c.loop-port.port-iterator ≡ [] = nothing_left (into_iter_items c.loop-port.port-iterator) (sym c.loop-port.invariant.counted ∙ c.in-None.ensures.steps.0) in
     let whole : c.loop-port.yielded ≡ c.args.ports.items = sym (append-nil c.loop-port.yielded) ∙ (ap (λ (x : List g.row.P.Denot). c.loop-port.yielded ++ x) (sym empty) ∙ c.loop-port.invariant.items) in
     let none : c.loop-port.left.items ≡ [] = no_items (vec_len c.loop-port.left) c.loop-port.left.items c.loop-port.left.ok.0 c.if-is_empty.ensures in
-    subst (λ (x : List g.row.P.Denot). ArePosts (λ post. (setting post.worker).number) (λ post. (setting post.worker).lanes) (λ start post gave took. IsMade g.P.Port.tells g.P.Port.state g.P.Port.ledger start post gave took) (λ post. view_by g.P.Port.state g.P.Port.ledger post.port) (map (view_by g.P.Port.state g.P.Port.ledger) x) c.loop-port.posts.items) whole (c.loop-port.invariant.posts none)
+    subst (λ (x : List g.row.P.Denot). ArePosts (λ post. (setting post.worker).number) (λ post. (setting post.worker).lanes) (λ start post gave took. IsMade g.P.Port.tells g.P.Port.state g.P.Port.ledger start post gave took) (λ post. view_by g.P.Port.state g.P.Port.ledger post.port) c.args.lanes (map (view_by g.P.Port.state g.P.Port.ledger) x) c.loop-port.posts.items) whole (c.loop-port.invariant.posts none)
 
 pub ports_of-requires-clause-room : goal.ports_of-requires-clause-room
 ports_of-requires-clause-room g c =

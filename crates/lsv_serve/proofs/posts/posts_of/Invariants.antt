@@ -16,5 +16,5 @@ invariant-loop-port g l = record {
   posts_room : length l.fn.ports.items ≤ vec_capacity l.posts;
   left_room : length l.fn.ports.items ≤ vec_capacity l.left;
   views : map (λ post. view_by g.P.Port.state g.P.Port.ledger post.port) l.posts.items ++ map (view_by g.P.Port.state g.P.Port.ledger) l.left.items ≡ map (view_by g.P.Port.state g.P.Port.ledger) l.yielded;
-  posts : l.left.items ≡ [] → ArePosts (λ post. (setting post.worker).number) (λ post. (setting post.worker).lanes) (λ start post gave took. IsMade g.P.Port.tells g.P.Port.state g.P.Port.ledger start post gave took) (λ post. view_by g.P.Port.state g.P.Port.ledger post.port) (map (view_by g.P.Port.state g.P.Port.ledger) l.yielded) l.posts.items;
+  posts : l.left.items ≡ [] → ArePosts (λ post. (setting post.worker).number) (λ post. (setting post.worker).lanes) (λ start post gave took. IsMade g.P.Port.tells g.P.Port.state g.P.Port.ledger start post gave took) (λ post. view_by g.P.Port.state g.P.Port.ledger post.port) l.fn.lanes (map (view_by g.P.Port.state g.P.Port.ledger) l.yielded) l.posts.items;
 }
