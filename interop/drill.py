@@ -1,7 +1,8 @@
 #!/usr/bin/env python3
 """Kills a server with -9 at random moments, under load, and starts it again on the same store.
 
-usage: drill.py --server PROGRAM [--as serve|once] [--kills N] [--clients N] [--seed N] [--fault NAME] [--power KIND]
+usage: drill.py --server PROGRAM [--as serve|once] [--lanes N] [--kills N] [--clients N] [--seed N] [--fault NAME]
+                [--power KIND]
 
 Clients open logs, send records and exits, read commit points, are cut off with the server or close by themselves, and
 resume at their last commit point with records that they make anew. After each kill, before the next start, store.py
@@ -9,8 +10,8 @@ reads the store:
 
 - each log has its records through the last commit point that its client read, and further ones only as they were sent;
 - an exit whose commit point was read is there, and a complete log has all of its records;
-- no number was given twice, none is above the number file, and those of a later life are above those of the earlier
-ones;
+- no number was given twice, none is above the number file of its lane, and those of a later life are above those of
+the earlier ones;
 - the accept of each log that a client knows has just one event line, an exit with its commit point too.
 
 A restart must be accepted wherever the log isn't complete. `once` has one client, on a pair of sockets, and a
@@ -148,13 +149,17 @@ class Drill:
         self.disk = power.Disk(args.power) if args.power else None
         self.place = servers.Place(parent=args.folder, disk=self.disk and self.disk.mounted)
         kind = servers.Once if args.kind == "once" else servers.Serve
-        self.server = kind(os.path.realpath(args.server), self.place, ["--fault", args.fault] if args.fault else [])
+        self.lanes = args.lanes
+        further = ["--lanes", str(args.lanes)] if args.lanes > 1 else []
+        further += ["--fault", args.fault] if args.fault else []
+        self.server = kind(os.path.realpath(args.server), self.place, further)
         self.clients = 1 if self.server.is_alone() else args.clients
         self.lock, self.greeted, self.sending, self.wrong = threading.Lock(), threading.Event(), threading.Event(), []
         self.sessions, self.open, self.exits = {}, [], {}
-        # what the event log has: its lines, the accept and the exit of each log, and how many rejects
-        self.lines, self.accepts, self.ended, self.rejects = [], {}, {}, 0
-        self.before, self.dead = 0, False
+        # what the event logs have: the lines of each lane's, the accept and the exit of each log, and how many rejects
+        self.lines, self.accepts, self.ended, self.rejects = [[] for _ in range(args.lanes)], {}, {}, 0
+        # the last number of each lane before this life
+        self.before, self.dead = [0] * args.lanes, False
         self.count = dict.fromkeys(("logs", "records", "commit points", "exits", "resumed", "cut off",
             "complete already", "refusals"), 0)
 
@@ -162,6 +167,10 @@ class Drill:
         """Counts what has happened."""
         with self.lock:
             self.count[what] += number
+
+    def lane_of(self, digits: str) -> int:
+        """The lane of a log."""
+        return (store.number_of(digits) - 1) % self.lanes
 
     def lacks(self) -> list[str]:
         """What hasn't happened yet, without which the drill says nothing."""
@@ -186,8 +195,9 @@ class Drill:
         with self.lock:
             if digits in self.sessions:
                 raise Wrong(f"the number {digits} was given twice")
-            if store.number_of(digits) <= self.before:
-                raise Wrong(f"the number {digits} was given after {store.digits_of(self.before)}, in an earlier life")
+            before = self.before[self.lane_of(digits)]
+            if store.number_of(digits) <= before:
+                raise Wrong(f"the number {digits} was given after {store.digits_of(before)}, in an earlier life")
             session = self.sessions[digits] = Session(digits, info)
         self.add("logs")
         return session
@@ -399,31 +409,32 @@ class Drill:
     def check(self, whole: bool = False) -> None:
         """Reads the store while no server runs: the logs that were written in this life and some others, or all."""
         try:
-            found = store.numbers(self.place.store)
-            last = found[0] if found else 0
             at_rest = [session for session in self.sessions.values() if session.at_rest is not None]
             written = [session for session in self.sessions.values() if session.at_rest is None]
             for session in written + (at_rest if whole else self.rng.sample(at_rest, min(10, len(at_rest)))):
                 log = store.read_log(self.place.store, session.digits)
                 session.check(log)
                 session.settle(log)
-            highest = max(map(store.number_of, self.sessions), default=0)
-            if highest > last:
-                raise Wrong(f"the number {store.digits_of(highest)} was given, and the last drawn one is {last}")
+            self.before = [self.last_of(lane) for lane in range(self.lanes)]
             self.check_events()
-            self.before = last
         except (Wrong, store.Damaged, OSError) as fault:
             self.wrong.append(str(fault))
 
+    def last_of(self, lane: int) -> int:
+        """The last number of a lane, as its number file has it. None that was given is above it."""
+        found = store.numbers(self.place.store, lane)
+        if found and found[1:] != (lane, self.lanes):
+            raise Wrong(f"the number file of lane {lane} is of {found[1:]}")
+        last = found[0] if found else 0
+        given = [store.number_of(digits) for digits in self.sessions if self.lane_of(digits) == lane]
+        if max(given, default=0) > last:
+            raise Wrong(f"the number {store.digits_of(max(given))} was given, and the last drawn one is {last}")
+        return last
+
     def check_events(self) -> None:
-        """The event log begins with the lines that it had, and has one accept of each log and one line of each exit."""
-        found = store.lines(self.place.events) or []
-        if found[: len(self.lines)] != self.lines:
-            raise Wrong("lines of the event log have changed")
-        for line in found[len(self.lines) :]:
-            ((name, members),) = json.loads(line).items()
-            self.take_event(name, members)
-        self.lines = found
+        """The event logs begin with the lines that they had, and have an accept of each log and a line of each exit."""
+        for lane in range(self.lanes):
+            self.take_lines(lane)
         for digits, session in self.sessions.items():
             if self.accepts.get(digits) != session.info:
                 raise Wrong(f"log {digits} was given, and its accept in the event log is {self.accepts.get(digits)}")
@@ -433,6 +444,19 @@ class Drill:
                 raise Wrong(f"log {digits} has ended with {value}, and its exit in the event log is {shown}")
         if self.rejects < self.count["refusals"]:
             raise Wrong(f"{self.rejects} rejects are in the event log of {self.count['refusals']}")
+
+    def take_lines(self, lane: int) -> None:
+        """The lines of a lane's event log that are new: each of a log is in that of the log's lane."""
+        found = store.lines(self.place.events + (f".{lane}" if lane else "")) or []
+        before = self.lines[lane]
+        if found[: len(before)] != before:
+            raise Wrong(f"lines of the event log of lane {lane} have changed")
+        for line in found[len(before) :]:
+            ((name, members),) = json.loads(line).items()
+            if "iolog" in members and self.lane_of(members["iolog"]) != lane:
+                raise Wrong(f"the event log of lane {lane} has a line of the log {members['iolog']}")
+            self.take_event(name, members)
+        self.lines[lane] = found
 
     def take_event(self, name: str, members: dict[str, Any]) -> None:
         """An event line that is new."""
@@ -462,6 +486,7 @@ def main() -> int:
     words = argparse.ArgumentParser(description=__doc__)
     words.add_argument("--server", required=True)
     words.add_argument("--as", dest="kind", choices=["serve", "once"], default="serve")
+    words.add_argument("--lanes", type=int, default=1)
     words.add_argument("--kills", type=int, default=50)
     words.add_argument("--clients", type=int, default=6)
     words.add_argument("--seed", type=int, default=int(time.time()))
@@ -469,8 +494,9 @@ def main() -> int:
     words.add_argument("--fault")
     words.add_argument("--power", choices=list(power.KINDS))
     args = words.parse_args()
-    print(f"drill.py: {args.kind}, seed {args.seed}{', cuts of the power of ' + args.power if args.power else ''}",
-        flush=True)
+    lanes = f", {args.lanes} lanes" if args.lanes > 1 else ""
+    cuts = f", cuts of the power of {args.power}" if args.power else ""
+    print(f"drill.py: {args.kind}{lanes}, seed {args.seed}{cuts}", flush=True)
     try:
         drill, kills, stopped = Drill(args), 0, []
     except power.Lacking as fault:

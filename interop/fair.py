@@ -1,7 +1,7 @@
 #!/usr/bin/env python3
 """Measures how long a new client waits while other clients keep the server busy, and fails if one isn't served.
 
-usage: fair.py --server PROGRAM [--long] [--sudo] [--syncs] [--disk FOLDER] [--only WORD]
+usage: fair.py --server PROGRAM [--lanes N] [--long] [--sudo] [--syncs] [--disk FOLDER] [--only WORD]
 
 The crowds: nobody; 1, 4 and 16 clients that send records without a pause, of 10 and of 1,000 bytes; clients that connect and
 leave without a pause; 127 clients that say nothing. Beside each, new clients come one after another. Each waits for the
@@ -216,7 +216,7 @@ class Times:
 # ---- syncs
 
 class Syncs:
-    """When the server's one thread waited for a sync, by strace."""
+    """When the server waited for a sync, by strace."""
 
     WORDS = ["strace", "-D", "-f", "--seccomp-bpf", "-qq", "-ttt", "-T", "-e", "trace=fsync,fdatasync", "-o"]
 
@@ -258,15 +258,15 @@ def processor_seconds(pid):
 class Measure:
     """A crowd at a server over a store of its own, and new clients beside it."""
 
-    def __init__(self, kind, program, parent, traces=False):
-        self.kind, self.program, self.parent, self.traces = kind, program, parent, traces
+    def __init__(self, kind, program, parent, traces=False, further=()):
+        self.kind, self.program, self.parent, self.traces, self.further = kind, program, parent, traces, further
         self.commits = kind is servers.Serve
         self.without = None
 
     def take(self, crowd, seconds, news, records):
         place = servers.Place(servers.OURS if self.commits else servers.SUDO, parent=self.parent)
         syncs = Syncs(place.folder, self.program) if self.traces else None
-        server = self.kind(syncs.program if syncs else self.program, place).start()
+        server = self.kind(syncs.program if syncs else self.program, place, self.further).start()
         times = Times()
         try:
             crowd.start(server.port)
@@ -311,6 +311,7 @@ def row(*parts):
 def main():
     words = argparse.ArgumentParser(description=__doc__, formatter_class=argparse.RawDescriptionHelpFormatter)
     words.add_argument("--server", required=True)
+    words.add_argument("--lanes", type=int, default=1)
     words.add_argument("--long", action="store_true")
     words.add_argument("--sudo", action="store_true")
     words.add_argument("--syncs", action="store_true")
@@ -328,7 +329,7 @@ def main():
             for crowd in crowds(args.long):
                 if args.only not in crowd.name():
                     continue
-                measure = Measure(kind, program, parent, args.syncs and name == "ours")
+                measure = Measure(kind, program, parent, args.syncs and name == "ours", ["--lanes", str(args.lanes)] if name == "ours" else ())
                 times, rate = measure.take(crowd, seconds, news, records)
                 row(name, store, crowd.name(), *times.shown(), *rate)
                 if measure.without:

@@ -33,14 +33,15 @@ CLIENTS = 128
 class Guarded:
     """A place for a store, below a folder that nobody may list, and the server that is run on it."""
 
-    def __init__(self, program, parent=None):
-        self.program = program
+    def __init__(self, program, parent=None, further=()):
+        """`further` are words that each server gets."""
+        self.program, self.further = program, list(further)
         self.above = tempfile.mkdtemp(prefix="guards", dir=parent)
         closed = os.path.join(self.above, "closed")
         os.mkdir(closed)
         self.place = servers.Place(parent=closed)
         os.chmod(closed, 0o311)
-        self.server = servers.Serve(program, self.place)
+        self.server = servers.Serve(program, self.place, self.further)
         self.running = []
 
     def __enter__(self):
@@ -109,7 +110,7 @@ class Guarded:
 
     def spawned(self, conf, before=None):
         """A further server."""
-        words = [self.program, "serve", "-f", conf]
+        words = [self.program, "serve", "-f", conf, *self.further]
         child = subprocess.Popen(words, stdin=subprocess.DEVNULL, stdout=subprocess.DEVNULL, stderr=subprocess.PIPE, text=True, preexec_fn=before)
         self.running.append(child)
         return child
@@ -605,12 +606,12 @@ def limit_of(count):
 def part_few_descriptors(program):
     """Too few for one client end the server; few are told; and one client at least is served, however many logs come."""
     with Guarded(program) as on:
-        for count in (10, 20, 31):
+        for count in (10, 20, 47):
             said = on.ended(on.place.conf, 7, before=limit_of(count))
             for word in (f"the limit of open files is {count}: not one client can be served", "704", "LimitNOFILE=", "port fault"):
                 if word not in said:
                     raise Differs(f"{word!r} isn't in {said!r}")
-        for count, clients in ((32, 1), (64, 1), (256, 1), (600, 24), (703, 127), (704, 128)):
+        for count, clients in ((48, 1), (64, 1), (256, 1), (600, 24), (703, 127), (704, 128)):
             on.server.before = limit_of(count)
             told = len(on.place.said()) if os.path.exists(on.place.errors) else 0
             on.server.start()
@@ -623,7 +624,7 @@ def part_few_descriptors(program):
 
 
 def part_client_turned_away(program):
-    """The link above the most is told, once a minute."""
+    """The links above the most are reported, by each port once a minute."""
     with Guarded(program) as on:
         on.start()
         links = [on.server.connect() for _ in range(CLIENTS)]
@@ -639,7 +640,8 @@ def part_client_turned_away(program):
             same("what a link that is turned away gets", link.recv(1), b"")
             link.close()
         said = [line for line in on.place.said().splitlines() if "turned away" in line]
-        same("lines", said, [f"sudo_logsrvd: 128 clients are connected, 127.0.0.1:{away[0]} was turned away; see who they are by ss -tn 'sport = :{on.place.port}'"])
+        wanted = [f"sudo_logsrvd: 128 clients are connected, 127.0.0.1:{port} was turned away; see who they are by ss -tn 'sport = :{on.place.port}'" for port in away]
+        same(f"lines of {said!r}", (said[:1], [line for line in said if line not in wanted]), (wanted[:1], []))
         for link in links:
             link.close()
         on.sessions(1)

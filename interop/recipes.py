@@ -115,7 +115,7 @@ def part_numbers_by_hand(program: str, _: str) -> None:
         on.stop()
         os.remove(on.numbers())
         on.refused("it holds logs")
-        run(block("Making seq2 by hand", "last="), {"DIR": on.store})
+        run(block("Making seq2 by hand", "lanes="), {"DIR": on.store})
         on.server.start()
         same("the next log", on.sessions(), ["000004"])
 

@@ -85,7 +85,7 @@ COMMANDS = [
     (["once", "--lanes", "1"], "--lanes: no such option here; see sudo_logsrvd(8)"),
     (["serve", "-f"], "-f needs a value; see sudo_logsrvd(8)"),
     (["serve", "-f", "a", "-fb"], "-f may stand once"),
-    (["serve", "--lanes", "4"], "--lanes 4: the number of lanes is from 1 to 1"),
+    (["serve", "--lanes", "5"], "--lanes 5: the number of lanes is from 1 to 4"),
     (["serve", "--stop-after=0"], "--stop-after 0: the number of connections is from 1 to 4294967295"),
     (["load"], "load needs the number of connections"),
     (["load", "10001"], "load 10001: the number of connections is from 1 to 10000"),

@@ -1,7 +1,7 @@
 #!/usr/bin/env python3
 """Tries a server with real clients: what each session leaves in the store is compared with what its client sent.
 
-usage: serve.py --server PROGRAM [--as serve|once|sudo] [--only WORD]
+usage: serve.py --server PROGRAM [--as serve|once|sudo] [--lanes N] [--only WORD]
 
 PROGRAM is run as `serve` of this repository, as its `once` behind a port with a process for each connection, or as
 sudo's own server, by which the script itself is tried. Between client and server stands a port that keeps all bytes:
@@ -62,9 +62,10 @@ def main() -> int:
     words = argparse.ArgumentParser(description=__doc__, formatter_class=argparse.RawDescriptionHelpFormatter)
     words.add_argument("--server", required=True)
     words.add_argument("--as", dest="kind", choices=["serve", "once", "sudo"], default="serve")
+    words.add_argument("--lanes", type=int, default=1)
     words.add_argument("--only", default="")
     args = words.parse_args()
-    on = trial.Trial(os.path.realpath(args.server), args.kind)
+    on = trial.Trial(os.path.realpath(args.server), args.kind, args.lanes)
     count, differ, left = 0, 0, dict[str, int]()
     for _, name, part in PARTS:
         if args.only not in name or not is_for(part, args.kind):
@@ -83,7 +84,8 @@ def main() -> int:
             print(f"{name}: the server has ended: {on.place.said()[-1000:]}")
             return 1
     on.end()
-    print(f"serve.py: {on.server.name}: {count} tried, {differ} differ" + "".join(f"; {number} skipped, {why}" for why,
+    name = on.server.name + (f" with {args.lanes} lanes" if args.lanes > 1 else "")
+    print(f"serve.py: {name}: {count} tried, {differ} differ" + "".join(f"; {number} skipped, {why}" for why,
         number in left.items()))
     return 1 if differ else 0
 

@@ -64,9 +64,9 @@ def shortened(value: Any) -> str:
 class Ours:
     """The store of this repository's server, compared with what was sent."""
 
-    def __init__(self, place: servers.Place) -> None:
-        """No event line was seen."""
-        self.place, self.seen = place, 0
+    def __init__(self, place: servers.Place, lanes: int = 1) -> None:
+        """No event line was seen in the event log of any lane."""
+        self.place, self.seen = place, [0] * lanes
 
     def compare(self, sessions: Sequence[tap.Sent], before: Sequence[Record] | None = None) -> None:
         """The logs and the event lines of these connections. `before` are the records that a restarted log had."""
@@ -106,13 +106,21 @@ class Ours:
         return log.records
 
     def forget(self) -> None:
-        """What the event log has by now is passed over."""
-        self.seen = len(store.lines(self.place.events) or [])
+        """What the event logs have by now is passed over."""
+        self.new_lines()
+
+    def new_lines(self) -> list[dict[str, Any]]:
+        """The lines of each lane's event log that weren't seen, lane by lane."""
+        new = []
+        for lane, seen in enumerate(self.seen):
+            found = store.lines(self.place.events + (f".{lane}" if lane else "")) or []
+            self.seen[lane] = len(found)
+            new += [json.loads(line) for line in found[seen:]]
+        return new
 
     def lines(self, sessions: Sequence[tap.Sent]) -> None:
         """The new event lines are those of these connections, each connection's in order."""
-        new = [json.loads(line) for line in (store.lines(self.place.events) or [])[self.seen :]]
-        self.seen += len(new)
+        new = self.new_lines()
         wanted = [[lines.event_members(name, what, sent.digits()) for name, what in sent.events] for sent in sessions]
         same("event lines", len(new), sum(map(len, wanted)))
         by_peer = {}
@@ -178,14 +186,15 @@ class Theirs:
 class Trial:
     """A server, the port before it, and the comparison."""
 
-    def __init__(self, program: str, kind: str) -> None:
-        """Starts the server of a kind."""
-        self.kind, self.program = kind, program
+    def __init__(self, program: str, kind: str, lanes: int = 1) -> None:
+        """Starts the server of a kind. `serve` may have several lanes."""
+        self.kind, self.program, self.lanes = kind, program, lanes
         self.place = servers.Place(servers.SUDO if kind == "sudo" else servers.OURS)
+        further = ["--lanes", str(lanes)] if lanes > 1 else []
         self.server = {"serve": servers.Serve, "once": servers.Listener, "sudo": servers.Sudo}[kind](program,
-            self.place).start()
+            self.place, further).start()
         self.tap = tap.Tap(self.server.port)
-        self.store = (Theirs if kind == "sudo" else Ours)(self.place)
+        self.store = Theirs(self.place) if kind == "sudo" else Ours(self.place, lanes)
         self.work = tempfile.mkdtemp(prefix="interop")
         self.sudo = Namespace(self.work, self.tap.port)
 
