@@ -34,7 +34,8 @@ use Rattle.lsv_turn.specs.Turns.{LaneTurn}
 abbrev pub lane_settings : (lane lanes : ℕ) → Kind → (log_exit : Bool) → Settings
 lane_settings lane lanes kind log_exit = record { lane = lane; lanes = lanes; log_exit = log_exit; line_of = λ now k asked log. event_line kind now k asked log }
 
--- the disk is one that this server's runs leave: unless the lane's number file is damaged or of another number of lanes, no image of it holds a file of a log of the lane above the last number that any image tells
+-- A run may begin with this disk. The lane's number file is damaged or of another number of lanes. Or each crash image tells a last
+-- number, and none holds a file of a log of the lane above any of these.
 abbrev pub IsFresh : (lane lanes : ℕ) → DiskView → Type 0
 IsFresh lane lanes disk = (last : ℕ) → judged lane lanes (entry_at lane disk.reads) ≡ Ok last → NumbersFit (reading_of lane lanes) lane lanes (IsCrashImage disk)
 

@@ -145,25 +145,26 @@ pub record BringsSome (input : List ℕ) (bodies : List Body) : Type 0 where
   pub of_input : AreJobs input jobs
   pub of_jobs : AreFirst heard jobs
 
--- A link was served as this connection up to some point: its jobs went to one lane, and are the first that its bytes bring;
--- and what was put on it is a prefix of the answers by that lane's replies.
-pub record ServesSome (k : ConnId) (link : LinkState) (jobs : ℕ → List Job) (replies : ℕ → List Reply) : Type 0 where
+-- A link was served as this connection up to some point. All its jobs went to one lane, the one that they decide if they decide one.
+-- They are the first that its bytes bring. What was put on it is a prefix of the answers by that lane's replies.
+pub record ServesSome (lanes : ℕ) (k : ConnId) (link : LinkState) (jobs : ℕ → List Job) (replies : ℕ → List Reply) : Type 0 where
   pub lane : ℕ
+  pub decided : (l : ℕ) → lane_of lanes (k.seq % lanes) (bodies_of k (jobs lane)) ≡ Some l → l ≡ lane
   pub brought : BringsSome link.input (bodies_of k (jobs lane))
   pub elsewhere : (m : ℕ) → m ≢ lane → bodies_of k (jobs m) ≡ []
   pub prefix : IsPrefix link.output (answers k (replies lane))
 
 -- a link was served up to some point, as the connection of this number or as none
-abbrev pub IsPut : (worker l : ℕ) → Option ℕ → (jobs : ℕ → List Job) (replies : ℕ → List Reply) → PortState → Type 0
-IsPut worker l None jobs replies port = IsTurnedAway port l
-IsPut worker l (Some seq) jobs replies port = ServesSome (conn_of worker seq) (port.link l) jobs replies
+abbrev pub IsPut : (lanes worker l : ℕ) → Option ℕ → (jobs : ℕ → List Job) (replies : ℕ → List Reply) → PortState → Type 0
+IsPut lanes worker l None jobs replies port = IsTurnedAway port l
+IsPut lanes worker l (Some seq) jobs replies port = ServesSome lanes (conn_of worker seq) (port.link l) jobs replies
 
 -- All links of a port, whose worker has this number, are closed, and were served up to some point. Nothing was put on them but
 -- prefixes of the answers by these replies. Each of these jobs that is the worker's is of one of them.
-pub record PutsPrefixes (worker : ℕ) (jobs : ℕ → List Job) (replies : ℕ → List Reply) (old new : PortView) : Type 0 where
+pub record PutsPrefixes (lanes worker : ℕ) (jobs : ℕ → List Job) (replies : ℕ → List Reply) (old new : PortView) : Type 0 where
   pub seats : Seats old.state new.state
   pub closed : (l : ℕ) → (new.state.link l).is_open ≡ false
-  pub put : (l : ℕ) → Contains seats.opened l → IsPut worker l (seats.seat l) jobs replies new.state
+  pub put : (l : ℕ) → Contains seats.opened l → IsPut lanes worker l (seats.seat l) jobs replies new.state
   pub known : (m : ℕ) (job : Job) → Contains (jobs m) job → job.conn.worker ≡ worker → (l : ℕ) × Contains seats.opened l × (seats.seat l ≡ Some job.conn.seq)
   -- it is the same port still, and no count of it fell
   pub goes_on : GoesOn old.ledger new.ledger

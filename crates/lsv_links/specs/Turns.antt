@@ -9,7 +9,7 @@ use Rattle.lsv_turn.specs.Turns.{LaneTurn}
 abbrev pub most_jobs : ℕ
 most_jobs = 256
 
--- each of these turns has jobs, and no more than that; and no gap is told of it
+-- each of these turns has 1 to 256 jobs, and no gap
 abbrev pub AreSized : List LaneTurn → Type 0
 AreSized turns = AllByRecursion (λ t. (1 ≤ length t.jobs) × (length t.jobs ≤ most_jobs) × (t.gap ≡ None)) turns
 

@@ -47,8 +47,7 @@ replies_in turns = flat_map (λ t. t.replies) turns
 
 -- ---- How large turns are
 
--- A turn has 1 to 256 jobs. With fewer than 256 it ended since this queue was found empty, just after its last job was taken.
--- before: how many items had been taken of the queue before the turn. No program's turns are said to be so yet.
+-- A turn has 1 to 256 jobs. If it has fewer than 256, its lane met this queue empty after `before` items and these jobs were taken.
 pub record IsTaken (queue : TableId) (before : ℕ) (t : LaneTurn) : Type 0 where
   pub some : 1 ≤ length t.jobs
   pub most : length t.jobs ≤ 256
@@ -86,7 +85,7 @@ EndsWithGone (b ∷ bodies) = (b ≡ Gone → bodies ≡ []) × EndsWithGone bod
 abbrev pub IsToThese : List Job → List Reply → Type 0
 IsToThese jobs replies = (k : ConnId) → bodies_of k jobs ≡ [] → NoneFor k replies
 
--- of these replies none is to a connection that brought none of these jobs; and none after one that shuts its connection, if that brings nothing after its end
+-- Each reply is to the connection of one of these jobs. A connection that brings nothing after its end gets nothing after its Shut.
 pub record AreAsked (jobs : List Job) (replies : List Reply) : Type 0 where
   pub asked : IsToThese jobs replies
   pub behind : (k : ConnId) (before after : List Reply) (r : Reply) → EndsWithGone (bodies_of k jobs) → replies ≡ before ++ r ∷ after → same r.conn k ≡ true → r.body ≡ Shut → NoneFor k after
