@@ -29,8 +29,8 @@ from trial import Differs, same
 
 LANES = 4
 NOBODY = 65534
-# The processor time that an idle server may take, in parts of the time that passes.
-MOST_IDLE = 0.002
+# How often all threads of an idle server together may go to sleep in a second: four workers 20 times each, and a few more.
+MOST_SLEEPS = 100
 
 
 def lane_of(digits: str, lanes: int = LANES) -> int:
@@ -194,8 +194,17 @@ def processor_seconds(pid: int) -> float:
     return total / 1e9
 
 
+def sleeps(pid: int) -> int:
+    """How often the threads of a process went to sleep."""
+    total = 0
+    for task in os.listdir(f"/proc/{pid}/task"):
+        with open(f"/proc/{pid}/task/{task}/status", encoding="ascii") as file:
+            total += sum(int(line.split()[1]) for line in file if line.startswith("voluntary_ctxt_switches:"))
+    return total
+
+
 def part_idle(program: str, _: str) -> None:
-    """A server without clients, and one with a silent client, takes next to no processor time."""
+    """The lanes of an idle server sleep, and each worker wakes 20 times a second. Its processor time is only shown."""
     for lanes in (1, LANES):
         with several(program, lanes) as on:
             on.start()
@@ -203,14 +212,18 @@ def part_idle(program: str, _: str) -> None:
             link = on.server.connect()
             link.read()
             time.sleep(1)
-            before, began = processor_seconds(on.server.process.pid), time.monotonic()
+            pid = on.server.process.pid
+            slept, before, began = sleeps(pid), processor_seconds(pid), time.monotonic()
             time.sleep(20)
-            part = (processor_seconds(on.server.process.pid) - before) / (time.monotonic() - began)
-            threads = len(os.listdir(f"/proc/{on.server.process.pid}/task"))
+            seconds = time.monotonic() - began
+            part = (processor_seconds(pid) - before) / seconds
+            rate = (sleeps(pid) - slept) / seconds
+            threads = len(os.listdir(f"/proc/{pid}/task"))
             link.close()
-            print(f"lanes.py: idle with {lanes} lanes: {threads} threads, {100 * part:.3f} % of a processor")
-            if part > MOST_IDLE:
-                raise Differs(f"with {lanes} lanes the idle server takes {100 * part:.2f} % of a processor")
+            costs = f"{100 * part:.3f} % of a processor, {rate:.0f} sleeps a second"
+            print(f"lanes.py: idle with {lanes} lanes: {threads} threads, {costs}")
+            if rate > MOST_SLEEPS:
+                raise Differs(f"with {lanes} lanes the threads of an idle server go to sleep {rate:.0f} times a second")
 
 
 def as_nobody(threads: int) -> Callable[[], None]:
