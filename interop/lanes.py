@@ -29,7 +29,7 @@ from trial import Differs, same
 
 LANES = 4
 NOBODY = 65534
-# How often all threads of an idle server together may go to sleep in a second: four workers 20 times each, and a few more.
+# How often the threads of an idle server, together, may go to sleep in a second: 20 times a worker, and a few more.
 MOST_SLEEPS = 100
 
 
