@@ -1,6 +1,5 @@
 -- What was done with the links of a port that was served, up to some point.
-use Rattle.std.proofs.Common.{◌++◌, [], ℕ, Bool, List, Option, Some, None, sym, ap, ◌∙◌, append_assoc, append-nil}
-use mathlib.Core.Option.{some-injective}
+use Rattle.std.proofs.Common.{◌≡◌, ◌++◌, [], ℕ, Bool, List, Option, Some, None, sym, ap, ◌∙◌, append_assoc, append-nil}
 use Rattle.lsv_session.specs.Transcript.{AreFirst}
 use Rattle.lsv_session.specs.declared.job.Body.{Body}
 use Rattle.lsv_session.specs.declared.job.Job.{Job}
@@ -32,11 +31,14 @@ brings_some input shut bodies b = record {
   of_jobs = b.first;
 }
 
+some_is : (a b : ℕ) → Some a ≡ Some b → a ≡ b
+some_is a b e = cc
+
 put_at : (lane_tells : ℕ → Type 0) (lanes worker l : ℕ) (seat : Option ℕ) (jobs : ℕ → List Job) (replies : ℕ → List Reply) (old new : PortView) → IsServed lane_tells lanes worker l seat jobs replies old new → IsPut lanes worker l seat jobs replies new.state
 put_at lane_tells lanes worker l None jobs replies old new s = s
 put_at lane_tells lanes worker l (Some seq) jobs replies old new s =
     let t : ServesLink lane_tells lanes (conn_of worker seq) l jobs replies old new = s in
-    record { lane = t.lane; decided = λ m e. some-injective (sym e ∙ t.decided); brought = brings_some _ _ _ t.by_lane.brings; elsewhere = t.elsewhere; prefix = t.by_lane.prefix }
+    record { lane = t.lane; decided = λ m e. some_is m t.lane (sym e ∙ t.decided); brought = brings_some _ _ _ t.by_lane.brings; elsewhere = t.elsewhere; prefix = t.by_lane.prefix }
 
 -- a port whose links were served to their ends was served up to some point
 pub served_prefixes : (lane_tells : ℕ → Type 0) (lanes worker : ℕ) (jobs : ℕ → List Job) (replies : ℕ → List Reply) (old new : PortView) → ServesPort lane_tells lanes worker jobs replies old new → PutsPrefixes lanes worker jobs replies old new
