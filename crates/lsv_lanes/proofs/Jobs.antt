@@ -13,13 +13,14 @@ use Rattle.lsv_session.specs.declared.reply.Reply.{Reply}
 use Rattle.lsv_session.proofs.Replies.{bodies_of-append}
 use Rattle.lsv_turn.specs.Turns.{EndsWithGone, LaneTurn, jobs_in, replies_in}
 use Rattle.lsv_links.specs.Lanes.{lane_of, share}
-use Rattle.lsv_links.specs.Links.{AtMostStarved, Brings, IsServed, ServesLink, ServesPort, ServesPorts, conn_of}
+use Rattle.lsv_links.specs.Links.{AtMostStarved, Brings, BringsSome, IsPut, IsServed, PutsPrefixes, ServesLink, ServesPort, ServesPorts, ServesSome, conn_of}
 use Rattle.lsv_links.specs.Views.{PortView}
+use Rattle.lsv_port.specs.Port.{PortState}
 use Rattle.lsv_machine.specs.Machine.{IsOfLane, Settings}
 use Rattle.lsv_machine.specs.Turns.{Happened, Happened.Did, Happened.Tailed, Happened.Begins}
 use Rattle.lsv_machine.proofs.Choices.{EqOr.equal, EqOr.unequal, eq_or, SameOr.alike, SameOr.apart, same_or}
 use Rattle.lsv_lanes.specs.Histories.{KeepsToLane, jobs_of}
-use Rattle.lsv_lanes.specs.Jobs.{AsksFirst, CameTo, IsShared, decider}
+use Rattle.lsv_lanes.specs.Jobs.{ArePut, AsksFirst, CameTo, IsShared, decider}
 use Rattle.lsv_lanes.proofs.Deciding.{ends_before, goes_on, lane_decided, of_lane, still_decides, still_of}
 
 -- ---- So far
@@ -116,10 +117,18 @@ ends_behind : (xs : List Body) → HasNoGone xs → EndsWithGone (xs ++ body.Gon
 ends_behind [] n = ((λ e. refl), tt)
 ends_behind (x ∷ xs) n = ((λ e. absurd (n.0 e)), ends_behind xs n.1)
 
+-- what a connection brings in all
+all_ends : (input : List ℕ) (heard starved jobs : List Body) → AreJobs input jobs → AreFirst heard jobs → AtMostStarved starved → EndsWithGone (heard ++ (starved ++ body.Gone ∷ []))
+all_ends input heard starved jobs of_input first at_most =
+    let sound : HasNoGone heard = no_gone_front heard first.0 (subst HasNoGone first.1 (no_gone of_input)) in
+    subst EndsWithGone (append_assoc heard starved (body.Gone ∷ [])) (ends_behind (heard ++ starved) (no_gone_both heard starved sound (none_starved starved at_most)))
+
 brought_ends : (input : List ℕ) (shut : Bool) (bodies : List Body) → Brings input shut bodies → EndsWithGone bodies
-brought_ends input shut bodies b =
-    let heard : HasNoGone b.heard = no_gone_front b.heard b.first.0 (subst HasNoGone b.first.1 (no_gone b.of_input)) in
-    subst EndsWithGone (append_assoc b.heard b.starved (body.Gone ∷ []) ∙ sym b.are) (ends_behind (b.heard ++ b.starved) (no_gone_both b.heard b.starved heard (none_starved b.starved b.at_most)))
+brought_ends input shut bodies b = subst EndsWithGone (sym b.are) (all_ends input b.heard b.starved b.jobs b.of_input b.first b.at_most)
+
+-- and up to some point
+some_ends : (input : List ℕ) (bodies : List Body) → BringsSome input bodies → EndsWithGone bodies
+some_ends input bodies b = ends_before bodies b.first.0 (subst EndsWithGone b.first.1 (all_ends input b.heard b.starved b.jobs b.of_input b.of_jobs b.at_most))
 
 -- ---- The links of all ports
 
@@ -137,27 +146,51 @@ its_job k (job ∷ jobs) = elim (same_or job.conn k) [
   ]
 ]
 
--- what is known of a connection's jobs in a lane: its lane is this one, and its end is the last of them
+-- what is known of a connection's jobs in a lane: if they decide a lane it is this one, and its end is the last of them
 record IsOfIt (lane lanes : ℕ) (k : ConnId) (bodies : List Body) : Type 0 where
-  decided : lane_of lanes (k.seq % lanes) bodies ≡ Some lane
+  decided : (l : ℕ) → lane_of lanes (k.seq % lanes) bodies ≡ Some l → l ≡ lane
   ends : EndsWithGone bodies
 
+-- a connection without jobs in it
+none_of_it : (lane lanes : ℕ) (k : ConnId) → IsOfIt lane lanes k []
+none_of_it lane lanes k = record { decided = λ l e. absurd (cc); ends = tt }
+
+-- the connection of a seat
+seat_is : (w seq : ℕ) (k : ConnId) → Some seq ≡ Some k.seq → k.worker ≡ w → conn_of w seq ≡ k
+seat_is w seq k e is = subst (λ (x : ℕ). conn_of w x ≡ k) (sym (some_is seq k.seq e)) (subst (λ (x : ℕ). conn_of x k.seq ≡ k) is refl)
+
 module _ (lane_tells : ℕ → Type 0) (lanes : ℕ) (jobs : ℕ → List Job) (replies : ℕ → List Reply) (old new : PortView) where
-  linked : (k : ConnId) (l lane : ℕ) → ServesLink lane_tells lanes k l jobs replies old new → (bodies_of k (jobs lane) ≡ []) ⊎ IsOfIt lane lanes k (bodies_of k (jobs lane))
+  linked : (k : ConnId) (l lane : ℕ) → ServesLink lane_tells lanes k l jobs replies old new → IsOfIt lane lanes k (bodies_of k (jobs lane))
   linked k l lane t = elim (eq_or lane t.lane) [
-    | equal p u ↦ inr (subst (λ (x : ℕ). IsOfIt x lanes k (bodies_of k (jobs x))) (sym p) (record { decided = t.decided; ends = brought_ends _ _ (bodies_of k (jobs t.lane)) t.by_lane.brings }))
-    | unequal p u ↦ inl (t.elsewhere lane p)
+    | equal p u ↦
+        let its : IsOfIt t.lane lanes k (bodies_of k (jobs t.lane)) = record { decided = λ m e. some_is m t.lane (sym e ∙ t.decided); ends = brought_ends _ _ (bodies_of k (jobs t.lane)) t.by_lane.brings } in
+        subst (λ (x : ℕ). IsOfIt x lanes k (bodies_of k (jobs x))) (sym p) its
+    | unequal p u ↦ subst (IsOfIt lane lanes k) (sym (t.elsewhere lane p)) (none_of_it lane lanes k)
   ]
 
-  seated : (w l lane : ℕ) (seat : Option ℕ) (k : ConnId) → seat ≡ Some k.seq → k.worker ≡ w → IsServed lane_tells lanes w l seat jobs replies old new → (bodies_of k (jobs lane) ≡ []) ⊎ IsOfIt lane lanes k (bodies_of k (jobs lane))
+  seated : (w l lane : ℕ) (seat : Option ℕ) (k : ConnId) → seat ≡ Some k.seq → k.worker ≡ w → IsServed lane_tells lanes w l seat jobs replies old new → IsOfIt lane lanes k (bodies_of k (jobs lane))
   seated w l lane None k e is s = absurd (cc)
-  seated w l lane (Some seq) k e is s =
-      let same : conn_of w seq ≡ k = subst (λ (x : ℕ). conn_of w x ≡ k) (sym (some_is seq k.seq e)) (subst (λ (x : ℕ). conn_of x k.seq ≡ k) is refl) in
-      linked k l lane (subst (λ (x : ConnId). ServesLink lane_tells lanes x l jobs replies old new) same s)
+  seated w l lane (Some seq) k e is s = linked k l lane (subst (λ (x : ConnId). ServesLink lane_tells lanes x l jobs replies old new) (seat_is w seq k e is) s)
 
-  of_port : (w lane : ℕ) (job : Job) → ServesPort lane_tells lanes w jobs replies old new → Contains (jobs lane) job → job.conn.worker ≡ w
-      → (bodies_of job.conn (jobs lane) ≡ []) ⊎ IsOfIt lane lanes job.conn (bodies_of job.conn (jobs lane))
+  of_port : (w lane : ℕ) (job : Job) → ServesPort lane_tells lanes w jobs replies old new → Contains (jobs lane) job → job.conn.worker ≡ w → IsOfIt lane lanes job.conn (bodies_of job.conn (jobs lane))
   of_port w lane job s in_ is = let (l, opened, seat) = s.known lane job in_ is in seated w l lane (s.seats.seat l) job.conn seat is (s.served l opened)
+
+-- and up to some point
+module _ (lanes : ℕ) (jobs : ℕ → List Job) (replies : ℕ → List Reply) where
+  linked_some : (k : ConnId) (port : PortState) (l lane : ℕ) → ServesSome lanes k (port.link l) jobs replies → IsOfIt lane lanes k (bodies_of k (jobs lane))
+  linked_some k port l lane t = elim (eq_or lane t.lane) [
+    | equal p u ↦
+        let its : IsOfIt t.lane lanes k (bodies_of k (jobs t.lane)) = record { decided = t.decided; ends = some_ends (port.link l).input (bodies_of k (jobs t.lane)) t.brought } in
+        subst (λ (x : ℕ). IsOfIt x lanes k (bodies_of k (jobs x))) (sym p) its
+    | unequal p u ↦ subst (IsOfIt lane lanes k) (sym (t.elsewhere lane p)) (none_of_it lane lanes k)
+  ]
+
+  seated_some : (w l lane : ℕ) (seat : Option ℕ) (k : ConnId) (port : PortState) → seat ≡ Some k.seq → k.worker ≡ w → IsPut lanes w l seat jobs replies port → IsOfIt lane lanes k (bodies_of k (jobs lane))
+  seated_some w l lane None k port e is s = absurd (cc)
+  seated_some w l lane (Some seq) k port e is s = linked_some k port l lane (subst (λ (x : ConnId). ServesSome lanes x (port.link l) jobs replies) (seat_is w seq k e is) s)
+
+  some_of_port : (w lane : ℕ) (job : Job) (old new : PortView) → PutsPrefixes lanes w jobs replies old new → Contains (jobs lane) job → job.conn.worker ≡ w → IsOfIt lane lanes job.conn (bodies_of job.conn (jobs lane))
+  some_of_port w lane job old new s in_ is = let (l, opened, seat) = s.known lane job in_ is in seated_some w l lane (s.seats.seat l) job.conn new.state seat is (s.put l opened)
 
 there : {A : Type 0} (xs : List A) (i : ℕ) → i < length xs → (x : A) × (slice_get xs i ≡ Some x)
 there xs i small = elim (slice_get_cases xs i).1 [
@@ -165,26 +198,24 @@ there xs i small = elim (slice_get_cases xs i).1 [
   | inr (high, none) ↦ absurd (omega arith)
 ]
 
-of_ports : (lane_tells : ℕ → Type 0) (lanes : ℕ) (turns : ℕ → List LaneTurn) (old new : List PortView) → ServesPorts lane_tells lanes turns old new → (lane : ℕ) (k : ConnId)
-    → (bodies_of k (jobs_in (turns lane)) ≡ []) ⊎ IsOfIt lane lanes k (bodies_of k (jobs_in (turns lane)))
-of_ports lane_tells lanes turns old new s lane k = elim (its_job k (jobs_in (turns lane))) [
-  | inl none ↦ inl none
-  | inr (job, in_, is) ↦
-      let small : job.conn.worker < length old = s.known lane job in_ in
-      let (before, was) = there old job.conn.worker small in
-      let (after, now) = there new job.conn.worker (let count = s.count in omega arith) in
-      subst (λ (x : ConnId). (bodies_of x (jobs_in (turns lane)) ≡ []) ⊎ IsOfIt lane lanes x (bodies_of x (jobs_in (turns lane)))) is
-      (of_port lane_tells lanes (λ m. jobs_in (turns m)) (λ m. replies_in (turns m)) before after job.conn.worker lane job (s.each job.conn.worker before after was now) in_ refl)
-]
+-- so these jobs came to the lane, if it is so of the connection of each of them
+came_by_jobs : (lane lanes : ℕ) (jobs : List Job) → ((job : Job) → Contains jobs job → IsOfIt lane lanes job.conn (bodies_of job.conn jobs)) → CameTo lane lanes jobs
+came_by_jobs lane lanes jobs all = record { decided = λ k. (of_it k).decided; ends = λ k. (of_it k).ends }
+  where
+    of_it : (k : ConnId) → IsOfIt lane lanes k (bodies_of k jobs)
+    of_it k = elim (its_job k jobs) [
+      | inl none ↦ subst (IsOfIt lane lanes k) (sym none) (none_of_it lane lanes k)
+      | inr (job, in_, is) ↦ subst (λ (x : ConnId). IsOfIt lane lanes x (bodies_of x jobs)) is (all job in_)
+    ]
 
 pub served_jobs : (lane_tells : ℕ → Type 0) (lanes : ℕ) (turns : ℕ → List LaneTurn) (old new : List PortView) → ServesPorts lane_tells lanes turns old new → (lane : ℕ) → CameTo lane lanes (jobs_in (turns lane))
-served_jobs lane_tells lanes turns old new s lane = record {
-  decided = λ k l e. elim (of_ports lane_tells lanes turns old new s lane k) [
-    | inl none ↦ absurd (let x : lane_of lanes (k.seq % lanes) [] ≡ Some l = subst (λ (b : List Body). lane_of lanes (k.seq % lanes) b ≡ Some l) none e in cc)
-    | inr its ↦ some_is l lane (sym e ∙ its.decided)
-  ];
-  ends = λ k. elim (of_ports lane_tells lanes turns old new s lane k) [
-    | inl none ↦ subst EndsWithGone (sym none) tt
-    | inr its ↦ its.ends
-  ];
-}
+served_jobs lane_tells lanes turns old new s lane = came_by_jobs lane lanes (jobs_in (turns lane)) (λ job in_.
+    let small : job.conn.worker < length old = s.known lane job in_ in
+    let (before, was) = there old job.conn.worker small in
+    let (after, now) = there new job.conn.worker (let count = s.count in omega arith) in
+    of_port lane_tells lanes (λ m. jobs_in (turns m)) (λ m. replies_in (turns m)) before after job.conn.worker lane job (s.each job.conn.worker before after was now) in_ refl)
+
+pub put_jobs : (lanes ports : ℕ) (turns : ℕ → List LaneTurn) → ArePut lanes ports turns → (lane : ℕ) → CameTo lane lanes (jobs_in (turns lane))
+put_jobs lanes ports turns s lane = came_by_jobs lane lanes (jobs_in (turns lane)) (λ job in_.
+    let (before, after, puts) = s.each job.conn.worker (s.known lane job in_) in
+    some_of_port lanes (λ m. jobs_in (turns m)) (λ m. replies_in (turns m)) job.conn.worker lane job before after puts in_ refl)

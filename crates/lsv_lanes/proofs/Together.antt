@@ -6,7 +6,7 @@ use Rattle.lsv_disk.specs.View.{DiskView}
 use Rattle.lsv_disk.specs.declared.file.FileId.{FileId}
 use Rattle.lsv_disk.specs.declared.file.Owner.TheVariants as owners
 use Rattle.lsv_session.specs.declared.connection.ConnId.{ConnId}
-use Rattle.lsv_turn.specs.Turns.{LaneTurn}
+use Rattle.lsv_turn.specs.Turns.{LaneTurn, jobs_in}
 use Rattle.lsv_links.specs.Links.{ServesPorts}
 use Rattle.lsv_links.specs.Views.{PortView}
 use Rattle.lsv_machine.specs.Disks.{AsksInRun, IsOfLaneStore, TouchesStore}
@@ -20,10 +20,10 @@ use Rattle.lsv_machine.proofs.Choices.{EqOr.equal, EqOr.unequal, eq_or}
 use Rattle.lsv_machine.proofs.Folds.{touches_as}
 use Rattle.lsv_machine.proofs.RunLaws.{one_writer, starts_sound}
 use Rattle.lsv_lanes.specs.Histories.{HasOneWriterInAll, SaysNoMore, IsOfRun, KeepsToLane, MakesTurns, jobs_of, writers_in_all}
-use Rattle.lsv_lanes.specs.Jobs.{CameTo}
+use Rattle.lsv_lanes.specs.Jobs.{ArePut, CameTo}
 use Rattle.lsv_lanes.proofs.Alone.{Alone, run_alone}
 use Rattle.lsv_lanes.proofs.Deciding.{of_lane, one_lane}
-use Rattle.lsv_lanes.proofs.Jobs.{keeps, kept_so_far, served_jobs}
+use Rattle.lsv_lanes.proofs.Jobs.{keeps, kept_so_far, put_jobs, served_jobs}
 use Rattle.lsv_lanes.proofs.Ledgers.{history_left}
 use Rattle.lsv_lanes.proofs.Stages.{let_through_own}
 
@@ -117,9 +117,9 @@ first_part set (Did act ∷ g) h a c (mid, step, rest) = let (b, r) = first_part
 first_part set (Tailed tail ∷ g) h a c (mid, ended, rest) = let (b, r) = first_part set g h mid c rest in (b, (mid, ended, r))
 first_part set (Begins texts ∷ g) h a c r = absurd r
 
-of_turns : (lane_tells : ℕ → Type 0) (lanes : ℕ) (turns : ℕ → List LaneTurn) (old new : List PortView) → ServesPorts lane_tells lanes turns old new → (lane : ℕ) (h : List Happened) → MakesTurns lane lanes (turns lane) h → IsOfRun lane lanes h
-of_turns lane_tells lanes turns old new served lane h t =
-    let came : CameTo lane lanes (jobs_of (t.run ++ t.rest)) = subst (CameTo lane lanes) (sym t.jobs) (served_jobs lane_tells lanes turns old new served lane) in
+of_turns : (lane lanes : ℕ) (turns : List LaneTurn) (h : List Happened) → CameTo lane lanes (jobs_in turns) → MakesTurns lane lanes turns h → IsOfRun lane lanes h
+of_turns lane lanes turns h all t =
+    let came : CameTo lane lanes (jobs_of (t.run ++ t.rest)) = subst (CameTo lane lanes) (sym t.jobs) all in
     let its : CameTo t.set.lane t.set.lanes (jobs_of (t.run ++ t.rest)) = subst (λ (l : ℕ). CameTo t.set.lane l (jobs_of (t.run ++ t.rest))) (sym t.lanes_are) (subst (λ (l : ℕ). CameTo l lanes (jobs_of (t.run ++ t.rest))) (sym t.lane_is) came) in
     let (end, runs) = first_part t.set t.run t.rest t.start t.end t.runs in
     record {
@@ -137,9 +137,15 @@ of_turns lane_tells lanes turns old new served lane h t =
       keeps = kept_so_far t.set t.run t.rest (keeps t.set (t.run ++ t.rest) its);
     }
 
+pub one_in_came : (lanes : ℕ) (turns : ℕ → List LaneTurn) (histories : ℕ → List Happened) → ((lane : ℕ) → CameTo lane lanes (jobs_in (turns lane))) → ((lane : ℕ) → lane < lanes → MakesTurns lane lanes (turns lane) (histories lane)) → HasOneWriterInAll lanes histories
+one_in_came lanes turns histories came all = one_in_all lanes histories (λ lane small. of_turns lane lanes (turns lane) (histories lane) (came lane) (all lane small))
+
 pub one_in_served : (lane_tells : ℕ → Type 0) (lanes : ℕ) (turns : ℕ → List LaneTurn) (old new : List PortView) (histories : ℕ → List Happened) → ServesPorts lane_tells lanes turns old new
     → ((lane : ℕ) → lane < lanes → MakesTurns lane lanes (turns lane) (histories lane)) → HasOneWriterInAll lanes histories
-one_in_served lane_tells lanes turns old new histories served all = one_in_all lanes histories (λ lane small. of_turns lane_tells lanes turns old new served lane (histories lane) (all lane small))
+one_in_served lane_tells lanes turns old new histories served all = one_in_came lanes turns histories (served_jobs lane_tells lanes turns old new served) all
+
+pub one_in_put : (lanes ports : ℕ) (turns : ℕ → List LaneTurn) (histories : ℕ → List Happened) → ArePut lanes ports turns → ((lane : ℕ) → lane < lanes → MakesTurns lane lanes (turns lane) (histories lane)) → HasOneWriterInAll lanes histories
+one_in_put lanes ports turns histories put all = one_in_came lanes turns histories (put_jobs lanes ports turns put) all
 
 -- ---- Files
 

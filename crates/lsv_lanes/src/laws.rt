@@ -15,16 +15,18 @@ ghost use Rattle.lsv_machine.specs.Recovery.{AnyTurnAsks, Turn};
 ghost use Rattle.lsv_machine.specs.Starts.{StartsAs};
 ghost use Rattle.lsv_machine.specs.Turns.{Happened, Happened.Begins, Run};
 ghost use Rattle.lsv_lanes.specs.Histories.{HasOneWriterInAll, IsOfRun, KeepsToLane, MakesTurns, SaysNoMore, jobs_of};
-ghost use Rattle.lsv_lanes.specs.Jobs.{AsksFirst, CameTo, IsShared};
+ghost use Rattle.lsv_lanes.specs.Jobs.{ArePut, AsksFirst, CameTo, IsShared};
 
 use lsv_disk::Disk;
 
 /// Each lane gets the jobs of the connections whose lane it is, and each connection's end is its last job. `served`: if the
-/// links of all ports are served. `shared`: if what each connection has said so far went to its lane, as at each moment.
-/// `some`: and so it is of what a lane has taken, if that is of each connection a first part.
+/// links of all ports are served. `put`: if they are served up to some point, as at each end of a run. `shared`: if what each
+/// connection has said so far went to its lane, as at each moment. `some`: and so it is of what a lane has taken, if that is of
+/// each connection a first part.
 pub fn each_lane_gets_its_jobs()
     ensures served { (lanes : ℕ) (turns : ℕ → List LaneTurn) (old new : List PortView) → ServesPorts (λ lane. ⊥) lanes turns old new →
         (lane : ℕ) → CameTo lane lanes (jobs_in (turns lane)) }
+    ensures put { (lanes ports : ℕ) (turns : ℕ → List LaneTurn) → ArePut lanes ports turns → (lane : ℕ) → CameTo lane lanes (jobs_in (turns lane)) }
     ensures shared { (lanes : ℕ) (jobs : ℕ → List Job) → ((k : ConnId) → IsShared lanes k jobs) → (lane : ℕ) → CameTo lane lanes (jobs lane) }
     ensures some { (lane lanes : ℕ) (some jobs : List Job) → CameTo lane lanes jobs → ((k : ConnId) → AreFirst (bodies_of k some) (bodies_of k jobs)) → CameTo lane lanes some }
 {}
@@ -50,10 +52,15 @@ pub fn a_lane_writes_its_own_logs()
 {}
 
 /// No log has two writers, over the histories of all lanes together, each up to any moment of its own. `kept`: if each lane
-/// keeps to its logs. `served`: if the links of all ports are served by the turns that the lanes make.
+/// keeps to its logs. `came`: if the jobs of the turns that each lane makes came to it. `served`: if the links of all ports are
+/// served by these turns. `put`: if they are served by them up to some point, as at each end of a run.
 pub fn a_log_has_one_writer_in_all()
     ensures kept { (lanes : ℕ) (histories : ℕ → List Happened) → ((lane : ℕ) → lane < lanes → IsOfRun lane lanes (histories lane)) → HasOneWriterInAll lanes histories }
+    ensures came { (lanes : ℕ) (turns : ℕ → List LaneTurn) (histories : ℕ → List Happened) → ((lane : ℕ) → CameTo lane lanes (jobs_in (turns lane))) →
+        ((lane : ℕ) → lane < lanes → MakesTurns lane lanes (turns lane) (histories lane)) → HasOneWriterInAll lanes histories }
     ensures served { (lanes : ℕ) (turns : ℕ → List LaneTurn) (old new : List PortView) (histories : ℕ → List Happened) → ServesPorts (λ lane. ⊥) lanes turns old new →
+        ((lane : ℕ) → lane < lanes → MakesTurns lane lanes (turns lane) (histories lane)) → HasOneWriterInAll lanes histories }
+    ensures put { (lanes ports : ℕ) (turns : ℕ → List LaneTurn) (histories : ℕ → List Happened) → ArePut lanes ports turns →
         ((lane : ℕ) → lane < lanes → MakesTurns lane lanes (turns lane) (histories lane)) → HasOneWriterInAll lanes histories }
 {}
 
