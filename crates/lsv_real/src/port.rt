@@ -1,6 +1,5 @@
 // The port of the operating system, over epoll(7). It tells no content, and counts its faults.
-ghost use Rattle.std.specs.Prelude.{◌≡◌, ◌≤◌, IfOk, OnErr};
-ghost use Rattle.lsv_defs.specs.Causes.{HasRisen};
+ghost use Rattle.std.specs.Prelude.{◌≡◌, IfOk};
 ghost use Rattle.lsv_real.specs.UntoldPort.{untold_port, ledger_of};
 
 mod accepted;
@@ -201,23 +200,17 @@ impl<N: Net + Drop> MioPort<N> {
         );
     }
 
-    /// A failure of the port as a whole is counted, and reported with what to do.
-    fn checked<T: Drop>(
-        &mut self,
-        what: &str,
-        todo: &str,
-        answer: io::Result<T>,
-    ) -> Result<T, PortFault>
-        ensures ok { IfOk result (λ t. answer ≡ Ok t) }
-        ensures turns { self.old.reports.faults ≤ self.new.reports.faults }
-        ensures links { self.new.link_faults ≡ self.old.link_faults }
-        ensures cause { OnErr result (HasRisen self.old.reports.faults self.new.reports.faults) }
-    {
-        if let Err(e) = &answer {
-            let program = self.reports.program;
-            let _ = eprintln!(self.reports.rt; "{program}: {what}: {e}{todo}");
+    /// Says on standard error why a call of the port as a whole failed, and what to do.
+    fn say(&self, what: &str, e: &io::Error, todo: &str) {
+        let program = self.reports.program;
+        let _ = eprintln!(self.reports.rt; "{program}: {what}: {e}{todo}");
+    }
+
+    /// Says why it can't listen, unless another port of the program said so: all share one address.
+    fn say_refusal(&self, address: &str, e: &io::Error) {
+        if self.door.is_first_refusal() {
+            self.say(address, e, advice(e));
         }
-        self.reports.checked(answer, PortFault)
     }
 
     /// Bytes went over a link.
@@ -243,16 +236,18 @@ impl<N: Net + Drop> Port for MioPort<N> {
     fn listen(&mut self, address: &str, stop_after: Option<u32>) -> Result<(), PortFault> {
         self.stop_after = stop_after;
         let answer = self.start(address);
-        let todo = match &answer {
-            Ok(()) => "",
-            Err(e) => advice(e),
-        };
-        self.checked(address, todo, answer)
+        if let Err(e) = &answer {
+            self.say_refusal(address, e);
+        }
+        self.reports.checked(answer, PortFault)
     }
 
     fn turn(&mut self, held: &[u32]) -> Result<Ready, PortFault> {
         let answer = self.next(held);
-        self.checked("the port", "", answer)
+        if let Err(e) = &answer {
+            self.say("the port", e, "");
+        }
+        self.reports.checked(answer, PortFault)
     }
 
     fn read(&mut self, link: u32, buf: &mut [u8]) -> Took {

@@ -37,6 +37,8 @@ pub struct Door {
     sockets: OnceLock<Sockets>,
     opened: AtomicU64,
     closed: AtomicU64,
+    /// How often a port couldn't listen.
+    refused: AtomicU64,
     /// This many links are open at most.
     most: u64,
 }
@@ -48,6 +50,7 @@ impl Door {
             sockets: OnceLock::new(),
             opened: AtomicU64::new(0),
             closed: AtomicU64::new(0),
+            refused: AtomicU64::new(0),
             most: clients_within(most_descriptors()),
         }
     }
@@ -68,6 +71,11 @@ impl Door {
         let own = sockets.try_clone()?;
         let _ = self.sockets.try_set(sockets);
         Ok(own)
+    }
+
+    /// A port couldn't listen. Whether it is the first of its program, which says why for all.
+    pub fn is_first_refusal(&self) -> bool {
+        self.refused.fetch_add(1, Ordering::SeqCst) == 0
     }
 
     /// How many links of all ports were closed.
