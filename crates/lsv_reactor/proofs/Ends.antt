@@ -21,6 +21,7 @@ use Rattle.lsv_links.specs.Views.{PortView}
 use Rattle.lsv_port.specs.Port.{LinkState, PortState}
 use Rattle.std.proofs.lemmas.List.Elements.{Contains-append_left}
 use Rattle.lsv_session.proofs.Replies.{bodies_of-append}
+use Rattle.lsv_reactor.proofs.Deciding.{part_decides}
 use Rattle.lsv_reactor.proofs.Own.{EqOr.equal, EqOr.unequal, contains_own, eq_or}
 
 -- ---- Its own connections
@@ -197,19 +198,20 @@ put_more : (w seq l lane : ℕ) (took : List Reply) (port : PortState) → IsPre
 put_more w seq l zero took port p = subst (IsPrefix (port.link l).output) (answers_own w seq took) p
 put_more w seq l (suc lane) took port p = p
 
-put_own : (w l : ℕ) (seat : Option ℕ) (all : List Job) (took : List Reply) (port : PortState) → IsPut w l seat (λ lane. one_lane lane (jobs_of w all)) (λ lane. one_lane lane (replies_to w took)) port → IsPut w l seat (λ lane. one_lane lane all) (λ lane. one_lane lane took) port
+put_own : (w l : ℕ) (seat : Option ℕ) (all : List Job) (took : List Reply) (port : PortState) → IsPut 1 w l seat (λ lane. one_lane lane (jobs_of w all)) (λ lane. one_lane lane (replies_to w took)) port → IsPut 1 w l seat (λ lane. one_lane lane all) (λ lane. one_lane lane took) port
 put_own w l None all took port p = p
 put_own w l (Some seq) all took port p =
-    let s : ServesSome (conn_of w seq) (port.link l) (λ lane. one_lane lane (jobs_of w all)) (λ lane. one_lane lane (replies_to w took)) = p in
+    let s : ServesSome 1 (conn_of w seq) (port.link l) (λ lane. one_lane lane (jobs_of w all)) (λ lane. one_lane lane (replies_to w took)) = p in
     record {
       lane = s.lane;
+      decided = λ n e. s.decided n (ap (lane_of 1 (seq % 1)) (bodies_lane w seq s.lane all) ∙ e);
       brought = subst (BringsSome (port.link l).input) (bodies_lane w seq s.lane all) s.brought;
       elsewhere = λ m ne. sym (bodies_lane w seq m all) ∙ s.elsewhere m ne;
       prefix = put_more w seq l s.lane took port s.prefix;
     }
 
 -- what is so by its own jobs and replies is so by all
-pub puts_own : (w : ℕ) (all : List Job) (took : List Reply) (old new : PortView) → PutsPrefixes w (λ lane. one_lane lane (jobs_of w all)) (λ lane. one_lane lane (replies_to w took)) old new → PutsPrefixes w (λ lane. one_lane lane all) (λ lane. one_lane lane took) old new
+pub puts_own : (w : ℕ) (all : List Job) (took : List Reply) (old new : PortView) → PutsPrefixes 1 w (λ lane. one_lane lane (jobs_of w all)) (λ lane. one_lane lane (replies_to w took)) old new → PutsPrefixes 1 w (λ lane. one_lane lane all) (λ lane. one_lane lane took) old new
 puts_own w all took old new p = record {
   seats = p.seats;
   closed = p.closed;
@@ -223,8 +225,8 @@ front_none [] ys e = refl
 front_none (x ∷ xs) ys e = absurd (cc)
 
 -- a link that was served up to some point, where some jobs weren't turned
-serves_turns : (k : ConnId) (link : LinkState) (turns : List LaneTurn) (waiting : List Job) → ServesSome k link (λ lane. one_lane lane (jobs_in turns ++ waiting)) (λ lane. one_lane lane (replies_in turns)) → ServesSome k link (λ lane. jobs_in (one_lane lane turns)) (λ lane. replies_in (one_lane lane turns))
-serves_turns k link turns waiting s = go s.lane s.brought s.elsewhere s.prefix
+serves_turns : (k : ConnId) (link : LinkState) (turns : List LaneTurn) (waiting : List Job) → ServesSome 1 k link (λ lane. one_lane lane (jobs_in turns ++ waiting)) (λ lane. one_lane lane (replies_in turns)) → ServesSome 1 k link (λ lane. jobs_in (one_lane lane turns)) (λ lane. replies_in (one_lane lane turns))
+serves_turns k link turns waiting s = go s.lane s.decided s.brought s.elsewhere s.prefix
   where
     both : bodies_of k (jobs_in turns ++ waiting) ≡ bodies_of k (jobs_in turns) ++ bodies_of k waiting
     both = bodies_of-append k (jobs_in turns) waiting
@@ -233,17 +235,18 @@ serves_turns k link turns waiting s = go s.lane s.brought s.elsewhere s.prefix
     other zero e = front_none (bodies_of k (jobs_in turns)) (bodies_of k waiting) (sym both ∙ e)
     other (suc m) e = refl
 
-    go : (lane : ℕ) → BringsSome link.input (bodies_of k (one_lane lane (jobs_in turns ++ waiting))) → ((m : ℕ) → m ≢ lane → bodies_of k (one_lane m (jobs_in turns ++ waiting)) ≡ []) → IsPrefix link.output (answers k (one_lane lane (replies_in turns)))
-        → ServesSome k link (λ l. jobs_in (one_lane l turns)) (λ l. replies_in (one_lane l turns))
-    go zero brought elsewhere prefix = record {
+    go : (lane : ℕ) → ((l : ℕ) → lane_of 1 (k.seq % 1) (bodies_of k (one_lane lane (jobs_in turns ++ waiting))) ≡ Some l → l ≡ lane) → BringsSome link.input (bodies_of k (one_lane lane (jobs_in turns ++ waiting))) → ((m : ℕ) → m ≢ lane → bodies_of k (one_lane m (jobs_in turns ++ waiting)) ≡ []) → IsPrefix link.output (answers k (one_lane lane (replies_in turns)))
+        → ServesSome 1 k link (λ l. jobs_in (one_lane l turns)) (λ l. replies_in (one_lane l turns))
+    go zero decided brought elsewhere prefix = record {
       lane = 0;
+      decided = part_decides 1 (k.seq % 1) 0 (bodies_of k (jobs_in turns)) (bodies_of k (jobs_in turns ++ waiting)) (bodies_of k waiting, both) decided;
       brought = brings_first link.input (bodies_of k (jobs_in turns)) (bodies_of k (jobs_in turns ++ waiting)) (bodies_of k waiting, both) brought;
       elsewhere = λ m ne. other m (elsewhere m ne);
       prefix = prefix;
     }
-    go (suc lane) brought elsewhere prefix = record { lane = suc lane; brought = brought; elsewhere = λ m ne. other m (elsewhere m ne); prefix = prefix }
+    go (suc lane) decided brought elsewhere prefix = record { lane = suc lane; decided = decided; brought = brought; elsewhere = λ m ne. other m (elsewhere m ne); prefix = prefix }
 
-put_in : (w l : ℕ) (seat : Option ℕ) (turns : List LaneTurn) (waiting : List Job) (port : PortState) → IsPut w l seat (λ lane. one_lane lane (jobs_in turns ++ waiting)) (λ lane. one_lane lane (replies_in turns)) port → IsPut w l seat (λ lane. jobs_in (one_lane lane turns)) (λ lane. replies_in (one_lane lane turns)) port
+put_in : (w l : ℕ) (seat : Option ℕ) (turns : List LaneTurn) (waiting : List Job) (port : PortState) → IsPut 1 w l seat (λ lane. one_lane lane (jobs_in turns ++ waiting)) (λ lane. one_lane lane (replies_in turns)) port → IsPut 1 w l seat (λ lane. jobs_in (one_lane lane turns)) (λ lane. replies_in (one_lane lane turns)) port
 put_in w l None turns waiting port p = p
 put_in w l (Some seq) turns waiting port p = serves_turns (conn_of w seq) (port.link l) turns waiting p
 
@@ -252,7 +255,7 @@ contains_turned zero turns waiting job has = Contains-append_left (jobs_in turns
 contains_turned (suc m) turns waiting job has = has
 
 -- by the jobs and the replies of these turns, where some jobs weren't turned
-pub puts_turns : (w : ℕ) (turns : List LaneTurn) (waiting : List Job) (old new : PortView) → PutsPrefixes w (λ lane. one_lane lane (jobs_in turns ++ waiting)) (λ lane. one_lane lane (replies_in turns)) old new → PutsPrefixes w (λ lane. jobs_in (one_lane lane turns)) (λ lane. replies_in (one_lane lane turns)) old new
+pub puts_turns : (w : ℕ) (turns : List LaneTurn) (waiting : List Job) (old new : PortView) → PutsPrefixes 1 w (λ lane. one_lane lane (jobs_in turns ++ waiting)) (λ lane. one_lane lane (replies_in turns)) old new → PutsPrefixes 1 w (λ lane. jobs_in (one_lane lane turns)) (λ lane. replies_in (one_lane lane turns)) old new
 puts_turns w turns waiting old new p = record {
   seats = p.seats;
   closed = p.closed;

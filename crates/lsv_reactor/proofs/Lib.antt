@@ -1,4 +1,5 @@
 pub mod Own
+pub mod Deciding
 pub mod OneLane
 pub mod Places
 pub mod Boxes

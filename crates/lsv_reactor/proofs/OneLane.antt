@@ -100,13 +100,17 @@ serves_of_one w jobs took old new s = record {
 
 -- ---- A port whose links were served up to some point
 
-some_of_one : (k : ConnId) (link : LinkState) (jobs : List Job) (took : List Reply) → ServesSome k link (λ lane. one_lane lane jobs) (λ lane. took) → ServesSome k link (λ lane. one_lane lane jobs) (λ lane. one_lane lane took)
-some_of_one k link jobs took s = go s.lane s.brought s.elsewhere s.prefix
+none_decided : (n : ℕ) → ◌≡◌ {A = Option ℕ} None (Some n) → ⊥
+none_decided n e = cc
+
+some_of_one : (k : ConnId) (link : LinkState) (jobs : List Job) (took : List Reply) → ServesSome 1 k link (λ lane. one_lane lane jobs) (λ lane. took) → ServesSome 1 k link (λ lane. one_lane lane jobs) (λ lane. one_lane lane took)
+some_of_one k link jobs took s = go s.lane s.decided s.brought s.elsewhere s.prefix
   where
-    go : (lane : ℕ) → BringsSome link.input (bodies_of k (one_lane lane jobs)) → ((m : ℕ) → m ≢ lane → bodies_of k (one_lane m jobs) ≡ []) → IsPrefix link.output (answers k took) → ServesSome k link (λ m. one_lane m jobs) (λ m. one_lane m took)
-    go zero brought elsewhere prefix = record { lane = 0; brought = brought; elsewhere = elsewhere; prefix = prefix }
-    go (suc lane) brought elsewhere prefix = record {
+    go : (lane : ℕ) → ((n : ℕ) → lane_of 1 (k.seq % 1) (bodies_of k (one_lane lane jobs)) ≡ Some n → n ≡ lane) → BringsSome link.input (bodies_of k (one_lane lane jobs)) → ((m : ℕ) → m ≢ lane → bodies_of k (one_lane m jobs) ≡ []) → IsPrefix link.output (answers k took) → ServesSome 1 k link (λ m. one_lane m jobs) (λ m. one_lane m took)
+    go zero decided brought elsewhere prefix = record { lane = 0; decided = decided; brought = brought; elsewhere = elsewhere; prefix = prefix }
+    go (suc lane) decided brought elsewhere prefix = record {
       lane = 0;
+      decided = λ n e. absurd (none_decided n (sym (ap (lane_of 1 (k.seq % 1)) (elsewhere 0 (λ e. cc))) ∙ e));
       brought = subst (BringsSome link.input) (sym (elsewhere 0 (λ e. cc))) brought;
       elsewhere = λ m ne. other m ne;
       prefix = prefix;
@@ -116,11 +120,11 @@ some_of_one k link jobs took s = go s.lane s.brought s.elsewhere s.prefix
         other zero ne = absurd (ne refl)
         other (suc m) ne = refl
 
-put_of_one : (w l : ℕ) (seat : Option ℕ) (jobs : List Job) (took : List Reply) (port : PortState) → IsPut w l seat (λ lane. one_lane lane jobs) (λ lane. took) port → IsPut w l seat (λ lane. one_lane lane jobs) (λ lane. one_lane lane took) port
+put_of_one : (w l : ℕ) (seat : Option ℕ) (jobs : List Job) (took : List Reply) (port : PortState) → IsPut 1 w l seat (λ lane. one_lane lane jobs) (λ lane. took) port → IsPut 1 w l seat (λ lane. one_lane lane jobs) (λ lane. one_lane lane took) port
 put_of_one w l None jobs took port p = p
 put_of_one w l (Some seq) jobs took port p = some_of_one (conn_of w seq) (port.link l) jobs took p
 
-pub puts_of_one : (w : ℕ) (jobs : List Job) (took : List Reply) (old new : PortView) → PutsPrefixes w (λ lane. one_lane lane jobs) (λ lane. took) old new → PutsPrefixes w (λ lane. one_lane lane jobs) (λ lane. one_lane lane took) old new
+pub puts_of_one : (w : ℕ) (jobs : List Job) (took : List Reply) (old new : PortView) → PutsPrefixes 1 w (λ lane. one_lane lane jobs) (λ lane. took) old new → PutsPrefixes 1 w (λ lane. one_lane lane jobs) (λ lane. one_lane lane took) old new
 puts_of_one w jobs took old new p = record {
   seats = p.seats;
   closed = p.closed;

@@ -42,17 +42,18 @@ module _ {T S : Type 0} (tells : Type 0) (number lanes : T → ℕ) (made_by : S
 
   -- the post at the next place is stopped
   pub stopped_more : (olds posts : List T) (place : ℕ) (x y : T) (calls : List (List Job)) (took : List Reply) → place < length posts → slice_get olds place ≡ Some x → Continues (view x).ledger (view y).ledger
-      → (tells → (start : S) (gave : ℕ → List Job) (got : List Reply) → made_by start x gave got → PutsPrefixes (number x) gave (λ lane. got) (begun start) (view y))
+      → (tells → (start : S) (gave : ℕ → List Job) (got : List Reply) → made_by start x gave got → PutsPrefixes (lanes x) (number x) gave (λ lane. got) (begun start) (view y))
       → ArePosts number lanes view made_by called starts ledgers olds calls took → AreStopped tells begun view starts ledgers posts calls took place → AreStopped tells begun view starts ledgers (set posts place y) calls took (place + 1)
   stopped_more olds posts place x y calls took less at heard put are below =
       let is : IsPost number lanes view made_by called (starts place) (ledgers place) place x calls took = are.each place x at in
       record {
         continues = below_set (λ i z. Continues (ledgers i) (view z).ledger) posts place y less (continues_then (ledgers place) (view x).ledger (view y).ledger is.continues heard) below.continues;
-        put = λ told. below_set (λ i z. PutsPrefixes i (λ lane. one_lane lane (jobs_by calls)) (λ lane. one_lane lane took) (begun (starts i)) (view z)) posts place y less
+        put = λ told. below_set (λ i z. PutsPrefixes 1 i (λ lane. one_lane lane (jobs_by calls)) (λ lane. one_lane lane took) (begun (starts i)) (view z)) posts place y less
             (puts_own place (jobs_by calls) took (begun (starts place)) (view y)
-            (subst (λ (l : List Job). PutsPrefixes place (λ lane. one_lane lane l) (λ lane. one_lane lane (replies_to place took)) (begun (starts place)) (view y)) (jobs_by_own (length olds) place calls are.placed)
+            (subst (λ (l : List Job). PutsPrefixes 1 place (λ lane. one_lane lane l) (λ lane. one_lane lane (replies_to place took)) (begun (starts place)) (view y)) (jobs_by_own (length olds) place calls are.placed)
             (puts_of_one place (jobs_by (calls_of place calls)) (replies_to place took) (begun (starts place)) (view y)
-            (subst (λ (n : ℕ). PutsPrefixes n (λ lane. one_lane lane (jobs_by (calls_of place calls))) (λ lane. replies_to place took) (begun (starts place)) (view y)) is.numbered (put told (starts place) (λ lane. one_lane lane (jobs_by (calls_of place calls))) (replies_to place took) is.made)))))
+            (subst (λ (n : ℕ). PutsPrefixes n place (λ lane. one_lane lane (jobs_by (calls_of place calls))) (λ lane. replies_to place took) (begun (starts place)) (view y)) is.laned
+            (subst (λ (n : ℕ). PutsPrefixes (lanes x) n (λ lane. one_lane lane (jobs_by (calls_of place calls))) (λ lane. replies_to place took) (begun (starts place)) (view y)) is.numbered (put told (starts place) (λ lane. one_lane lane (jobs_by (calls_of place calls))) (replies_to place took) is.made))))))
             (below.put told);
         placed = subst (λ (n : ℕ). AllByRecursion (IsOfOne n) calls) (sym (length-set posts place y)) below.placed;
       }
@@ -71,7 +72,7 @@ module _ {T S : Type 0} (tells : Type 0) (number lanes : T → ℕ) (made_by : S
       record {
         each = λ told i post e.
             puts_turns i turns (jobs_by waiting) (begun (starts i)) (view post)
-            (subst (λ (l : List Job). PutsPrefixes i (λ lane. one_lane lane l) (λ lane. one_lane lane (replies_in turns)) (begun (starts i)) (view post)) are (s.put told i post (slice_get_within posts i post e) e));
+            (subst (λ (l : List Job). PutsPrefixes 1 i (λ lane. one_lane lane l) (λ lane. one_lane lane (replies_in turns)) (begun (starts i)) (view post)) are (s.put told i post (slice_get_within posts i post e) e));
         within = λ job has. within_calls (length posts) (calls_in turns ++ waiting) job s.placed (subst (λ (l : List Job). Contains l job) (sym are) (Contains-append_left (jobs_in turns) (jobs_by waiting) job has));
       }
 

@@ -83,5 +83,5 @@ KeepLedgers {T} view ledgers posts = (i : ℕ) (post : T) → slice_get posts i 
 -- the first this many posts were stopped: their links are closed, the jobs of these calls are the first of what was read of them, and nothing was put on them but prefixes of the answers by these replies
 pub record AreStopped {T S : Type 0} (tells : Type 0) (begun : S → PortView) (view : T → PortView) (starts : ℕ → S) (ledgers : ℕ → PortLedger) (posts : List T) (calls : List (List Job)) (took : List Reply) (count : ℕ) : Type 0 where
   pub continues : (i : ℕ) (post : T) → i < count → slice_get posts i ≡ Some post → Continues (ledgers i) (view post).ledger
-  pub put : tells → (i : ℕ) (post : T) → i < count → slice_get posts i ≡ Some post → PutsPrefixes i (λ lane. one_lane lane (jobs_by calls)) (λ lane. one_lane lane took) (begun (starts i)) (view post)
+  pub put : tells → (i : ℕ) (post : T) → i < count → slice_get posts i ≡ Some post → PutsPrefixes 1 i (λ lane. one_lane lane (jobs_by calls)) (λ lane. one_lane lane took) (begun (starts i)) (view post)
   pub placed : AllByRecursion (IsOfOne (length posts)) calls

@@ -36,9 +36,9 @@ pub record ServesAll {T S : Type 0} (tells lane_tells : Type 0) (made_by : S →
 -- All links of all ports are closed. The jobs of these turns of the one lane are the first of what was read of them, nothing was put
 -- on them but prefixes of the answers by these turns, and no job is of another worker than that of a port's place.
 pub record PutsAll {T S : Type 0} (tells : Type 0) (begun : S → PortView) (view : T → PortView) (starts : ℕ → S) (posts : List T) (turns : List LaneTurn) : Type 0 where
-  pub each : tells → (i : ℕ) (post : T) → slice_get posts i ≡ Some post → PutsPrefixes i (λ lane. jobs_in (one_lane lane turns)) (λ lane. replies_in (one_lane lane turns)) (begun (starts i)) (view post)
+  pub each : tells → (i : ℕ) (post : T) → slice_get posts i ≡ Some post → PutsPrefixes 1 i (λ lane. jobs_in (one_lane lane turns)) (λ lane. replies_in (one_lane lane turns)) (begun (starts i)) (view post)
   pub within : (job : Job) → Contains (jobs_in turns) job → job.conn.worker < length posts
 
--- the ports of these posts are the same still: they were asked to listen on nothing more, and no count of them fell
+-- the ports of these endpoints are the same still: they were asked to listen on nothing more, and no count of them fell
 abbrev pub KeepPorts : {T : Type 0} (view : T → PortView) (olds news : List T) → Type 0
 KeepPorts {T} view olds news = (i : ℕ) (old new : T) → slice_get olds i ≡ Some old → slice_get news i ≡ Some new → Continues (view old).ledger (view new).ledger

@@ -117,11 +117,12 @@ pub trait Endpoint {
             Serves (lanes self.now) (number self.now) gave took (begun start) (view self.now) }
         ensures cause { result ≡ Some EndpointEnd.Failed → (start : Start) (gave : ℕ → List Job) (took : List Reply) → made_by start self.now gave took → PortFailed (begun start) (view self.now) };
 
-    /// Closes all its links. No job comes of it any more. The jobs that it put are the first of what was read of the links,
-    /// and nothing was put on them but prefixes of the answers by the replies that it took.
+    /// Closes all its links. No job comes of it any more. The jobs that it put are the first of what was read of the links.
+    /// Those of a connection went to one lane, the one that they decide if they decide one. Nothing was put on the links but
+    /// prefixes of the answers by the replies that it took.
     fn stop(&mut self)
         requires begun { (start : Start) × (gave : ℕ → List Job) × (took : List Reply) × made_by start self.old gave took }
-        ensures put { tells → (start : Start) (gave : ℕ → List Job) (took : List Reply) → made_by start self.old gave took → PutsPrefixes (number self.old) gave (λ lane. took) (begun start) (view self.new) }
+        ensures put { tells → (start : Start) (gave : ℕ → List Job) (took : List Reply) → made_by start self.old gave took → PutsPrefixes (lanes self.old) (number self.old) gave (λ lane. took) (begun start) (view self.new) }
         ensures continues { Continues (view self.old).ledger (view self.new).ledger };
 
     ghost none_called: { (start : Start) (e : Self) → made_by start e (λ lane. []) [] → called e [] };
