@@ -50,3 +50,4 @@ pub mod Causes
 pub mod Saying
 pub mod DamagedLemmas
 pub mod SparingLemmas
+pub mod CallLemmas

@@ -1,5 +1,5 @@
 -- The row of a restart that is accepted.
-use Rattle.std.proofs.Common.{◌≡◌, ◌≤◌, ◌<◌, ℕ, List, [], ◌∷◌, length, take, append-nil, Option, Some, None, refl, sym, ◌∙◌, ap, subst, inl, inr, arith}
+use Rattle.std.proofs.Common.{◌≡◌, ◌≤◌, ◌<◌, ℕ, List, [], ◌∷◌, length, take, append-nil, Option, Some, None, refl, sym, ◌∙◌, ap, subst, inr, arith}
 use Rattle.std.specs.Prelude.{◌==◌, false, if◌then◌else◌}
 use Rattle.std.proofs.lemmas.Grind.{common_steps}
 use Rattle.lsv_base.specs.declared.time.TimeSpec.{TimeSpec}

@@ -1,5 +1,5 @@
 -- What a turn says, and that it says that a device failed only where that is told.
-use Rattle.std.proofs.Common.{◌≡◌, ◌⊎◌, ℕ, List, [], ◌∷◌, ◌++◌, slice_index_or, refl, sym, ◌∙◌, ap, subst, inl, inr, arith, append_assoc}
+use Rattle.std.proofs.Common.{◌≡◌, ℕ, List, [], ◌∷◌, ◌++◌, slice_index_or, refl, sym, ◌∙◌, ap, subst, inl, inr, arith, append_assoc}
 use Rattle.std.specs.Prelude.{map}
 use Rattle.std.specs.List.{AllByRecursion}
 use Rattle.lsv_msg.specs.declared.messages.ServerMessage.{ServerMessage}
@@ -7,11 +7,9 @@ use Rattle.lsv_msg.specs.declared.messages.ServerMessage.TheVariants as server
 use Rattle.lsv_request.specs.Refusals.{refusal_text}
 use Rattle.lsv_request.specs.declared.refusal.Refusal.{Refusal}
 use Rattle.lsv_request.specs.declared.refusal.Refusal.TheVariants.{UnexpectedMessage, MalformedMessage, MessageTooLarge, MissingKey, BadTime, BadSizeOrSignal, LogInUse, NoSuchLog, LogComplete, NoSuchResumePoint, LogDamaged, DeviceFault, NumbersSpent, LogFull, OutOfMemory}
-use Rattle.lsv_session.specs.Connections.{refusal_message}
 use Rattle.lsv_session.specs.declared.connection.ConnId.{ConnId}
 use Rattle.lsv_session.specs.declared.reply.Reply.{Reply}
-use Rattle.lsv_session.specs.declared.reply.ReplyBody.TheVariants as body
-use Rattle.lsv_machine.specs.Answers.{Answer, CommitPoint, Error, LogId, Shut, body_of, farewell, refusal, reply_of, say}
+use Rattle.lsv_machine.specs.Answers.{Answer, CommitPoint, Error, refusal, reply_of, say}
 use Rattle.lsv_machine.specs.Failures.{WantsMemory}
 use Rattle.lsv_keeper.specs.Causes.{IsDeviceFault, Says, TellsFault}
 use Rattle.lsv_keeper.specs.Rows.{Tells}

@@ -1,15 +1,15 @@
 -- What a turn writes of a damaged log: nothing but its journal.
-use Rattle.std.proofs.Common.{◌≡◌, ◌≢◌, ◌≤◌, ◌<◌, ◌⊎◌, ℕ, List, refl, sym, ◌∙◌, ap, subst, inl, inr, arith, Option, Some, None}
+use Rattle.std.proofs.Common.{◌≡◌, ◌≢◌, ◌≤◌, ◌<◌, ◌⊎◌, ℕ, List, refl, sym, ◌∙◌, ap, subst, inl, inr, arith, Some, None}
 use Rattle.lsv_disk.specs.View.{DiskView}
-use Rattle.lsv_iolog.specs.Recovered.{IsOfLog, Replays, ReplaysNothing}
+use Rattle.lsv_iolog.specs.Recovered.{Replays, ReplaysNothing}
 use Rattle.lsv_iolog.specs.declared.fault.LogFault.{LogFault}
 use Rattle.lsv_iolog.specs.declared.fault.LogFault.TheVariants as faults
 use Rattle.lsv_seq.specs.declared.numbers.Numbers.{Numbers}
-use Rattle.lsv_seq.specs.Value.{lane_of, lanes_of}
+use Rattle.lsv_seq.specs.Value.{lanes_of}
 use Rattle.lsv_session.specs.Table.{Sessions}
 use Rattle.lsv_machine.specs.Machine.{IsOfLane, LogState, LogState.Absent, LogState.Damaged, LogState.There, Machine}
 use Rattle.lsv_machine.specs.Starts.{ReadsAs}
-use Rattle.lsv_machine.proofs.Choices.{EqOr, EqOr.equal, EqOr.unequal, eq_or}
+use Rattle.lsv_machine.proofs.Choices.{EqOr.equal, EqOr.unequal, eq_or}
 use Rattle.lsv_keeper.specs.declared.logs.OpenLog.{OpenLog}
 use Rattle.lsv_keeper.specs.Represents.{Free, LogIs, Represents}
 use Rattle.lsv_keeper.specs.Resuming.{IsLooked, IsResumeFault, IsResumed}

@@ -18,3 +18,4 @@ pub mod Syncing
 pub mod Causes
 pub mod Jobs
 pub mod Frames
+pub mod Calls

@@ -1,5 +1,5 @@
 -- Open logs by number, and what becomes of one where a record comes or where it is flushed.
-use Rattle.std.specs.Prelude.{ℕ, ◌≡◌, ◌⊎◌, ◌≤◌, ◌<◌, ◌+◌, ◌^◌, ◌==◌, nat_eq, slice_get, true, false, if◌then◌else◌, List, [], ◌∷◌, ◌++◌, Option, Some, None}
+use Rattle.std.specs.Prelude.{ℕ, ◌≡◌, ◌⊎◌, ◌≤◌, ◌<◌, ◌+◌, ◌^◌, ◌==◌, nat_eq, slice_get, true, false, if◌then◌else◌, List, [], ◌∷◌, ◌++◌, Option, Some, None, Result, OnOk}
 use Rattle.std.specs.HashMap as hash
 use Rattle.std.specs.Prelude.{FitsSigned}
 use Rattle.std.specs.Int.{w32}
@@ -41,6 +41,18 @@ spare_logs logs = hash.spare logs.map
 -- the open logs where this number has this one, or none
 abbrev pub with_open : ℕ → Option OpenLog → (ℕ → Option OpenLog) → ℕ → Option OpenLog
 with_open n its logs = λ i. if i == n then its else logs i
+
+-- if it succeeds, there is room for one log more. The same logs are open, and no room is lost
+pub record MakesRoom {T E : Type 0} (result : Result T E) (old new : OpenLogs) : Type 0 where
+  pub same : open_logs new ≡ open_logs old
+  pub ok : OnOk result (1 ≤ spare_logs new)
+  pub kept : spare_logs old ≤ spare_logs new
+
+-- the log of a number is taken out, if it is open. No room is lost
+pub record TakesOut (n : ℕ) (its : Option OpenLog) (old new : OpenLogs) : Type 0 where
+  pub taken : its ≡ open_logs old n
+  pub rest : open_logs new ≡ with_open n None (open_logs old)
+  pub room : spare_logs old ≤ spare_logs new
 
 -- ---- A record
 

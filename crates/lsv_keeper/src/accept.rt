@@ -1,26 +1,23 @@
 //! Accepts: an event alone, or a log that is opened.
 
-ghost use Rattle.std.specs.Prelude.{◌≡◌, ◌≤◌, false, [], None, Ok, IfErr, IfOk, IsSome, OnErr, OnOk, vec_capacity, ◌∷◌, IsErrOf};
+ghost use Rattle.std.specs.Prelude.{◌≡◌, ◌≤◌, false, [], None, Ok, IfErr, IfOk, IsSome, OnErr, vec_capacity, ◌∷◌, IsErrOf};
 ghost use Rattle.lsv_base.specs.LogNo.{digits_of};
 ghost use Rattle.lsv_base.specs.Time.{nanos_of};
 ghost use Rattle.lsv_mask.specs.Masking.{seen};
 ghost use Rattle.lsv_msg.specs.declared.messages.ClientMessage.{ClientMessage};
 ghost use Rattle.lsv_request.specs.declared.request.Request.TheVariants as requests;
-ghost use Rattle.lsv_session.specs.Table.{spare_owners};
-ghost use Rattle.lsv_session.specs.declared.job.Job.{Job};
-ghost use Rattle.lsv_machine.specs.Failures.{AsksFor, MayDraw};
+ghost use Rattle.lsv_machine.specs.Failures.{MayDraw};
 ghost use Rattle.lsv_machine.specs.Judgement.{judged};
 ghost use Rattle.lsv_machine.specs.Machine.{Machine, is_running};
 ghost use Rattle.lsv_machine.specs.Work.{draws, last_number};
 ghost use Rattle.lsv_keeper.specs.Accepting.{Begun, DrawsNone, Stopped, accept_of, create_refusal, draw_refusal};
+ghost use Rattle.lsv_keeper.specs.Calls.{ReservesLog};
 ghost use Rattle.lsv_keeper.specs.Frames.{CallKeeps, DrawKeeps};
-ghost use Rattle.lsv_keeper.specs.Logs.{spare_logs};
+ghost use Rattle.lsv_keeper.specs.Jobs.{DoesRequest};
 ghost use Rattle.lsv_keeper.specs.Represents.{Represents};
-ghost use Rattle.lsv_keeper.specs.Rows.{IsTold, RowGives};
-ghost use Rattle.lsv_keeper.specs.Value.{IsReserved, room, sessions_of, settings_of};
+ghost use Rattle.lsv_keeper.specs.Value.{room, sessions_of, settings_of};
 ghost use Rattle.lsv_keeper.specs.Views.{view_of};
 ghost use Rattle.lsv_keeper.specs.Syncing.{IsPast};
-ghost use Rattle.lsv_keeper.specs.Causes.{TellsFault};
 
 use crate::Keeper;
 use crate::logs::OpenLog;
@@ -101,10 +98,7 @@ impl<F: LineWriter, H: Search> Keeper<F, H> {
         requires asked { (message : ClientMessage) × (judged state message ≡ Ok (requests.Accept accept)) }
         requires stands { D.tells → (m : Machine) × Represents (view_of self.old) (D.view disk.old) m }
         requires room { 1 ≤ room (view_of self.old) }
-        ensures frame { CallKeeps D.tells (conn ∷ []) (Unit {0}) (TellsFault result) (view_of self.old) (view_of self.new) (D.view disk.old) (D.view disk.new) }
-        ensures told { IsTold result }
-        ensures row { D.tells → (m : Machine) (job : Job) → Represents (view_of self.old) (D.view disk.old) m → job.conn ≡ conn → AsksFor (m.states conn) job.body (requests.Accept accept)
-            → RowGives (view_of self.old) now job result m (view_of self.new) (D.view disk.old) (D.view disk.new) }
+        ensures done { DoesRequest D.tells now conn (requests.Accept accept) result (view_of self.old) (view_of self.new) (D.view disk.old) (D.view disk.new) }
     {
         let Accept {
             head,
@@ -132,10 +126,7 @@ impl<F: LineWriter, H: Search> Keeper<F, H> {
         requires free { is_running ((sessions_of (view_of self.old)).states conn) ≡ false }
         requires stands { D.tells → (m : Machine) × Represents (view_of self.old) (D.view disk.old) m }
         requires room { 1 ≤ room (view_of self.old) }
-        ensures frame { CallKeeps D.tells (conn ∷ []) (Unit {0}) (TellsFault result) (view_of self.old) (view_of self.new) (D.view disk.old) (D.view disk.new) }
-        ensures told { IsTold result }
-        ensures row { D.tells → (m : Machine) (job : Job) → Represents (view_of self.old) (D.view disk.old) m → job.conn ≡ conn → AsksFor (m.states conn) job.body (requests.Accept (accept_of head))
-            → RowGives (view_of self.old) now job result m (view_of self.new) (D.view disk.old) (D.view disk.new) }
+        ensures done { DoesRequest D.tells now conn (requests.Accept (accept_of head)) result (view_of self.old) (view_of self.new) (D.view disk.old) (D.view disk.new) }
     {
         match self.open_log(disk, now, conn, head) {
             Ok(opened) => Told::Log(opened.number, opened.id),
@@ -198,8 +189,7 @@ impl<F: LineWriter, H: Search> Keeper<F, H> {
 
     /// Makes what can be made of a log before its number is drawn, so that no number is wasted for want of that memory.
     fn prepare(&mut self) -> Result<Prepared, NoMem>
-        ensures same { IsReserved (view_of self.old) (view_of self.new) }
-        ensures ok { OnOk result ((1 ≤ spare_owners (view_of self.new).table) × (1 ≤ spare_logs (view_of self.new).logs)) }
+        ensures reserved { ReservesLog result (view_of self.old) (view_of self.new) }
         ensures mask { IfOk result (λ prepared. prepared.mask ≡ seen (view_of self.old).texts []) }
         ensures id { IfOk result (λ prepared. (prepared.id.items ≡ []) × (6 ≤ vec_capacity prepared.id)) }
     {

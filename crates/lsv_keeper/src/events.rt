@@ -1,19 +1,17 @@
 //! Event lines.
 
-ghost use Rattle.std.specs.Prelude.{◌≡◌, ◌++◌, true, false, None, IfErr, OnOk, OnErr, [], ◌∷◌, IsErrOf};
+ghost use Rattle.std.specs.Prelude.{◌≡◌, ◌++◌, true, false, IfErr, OnOk, OnErr, [], ◌∷◌, IsErrOf};
 ghost use Rattle.lsv_event.specs.Events.{IsTimed};
 ghost use Rattle.lsv_event.specs.Lines.{line_of};
 ghost use Rattle.lsv_eventlog.specs.Value.{is_broken};
 ghost use Rattle.lsv_machine.specs.Machine.{Machine};
 ghost use Rattle.lsv_machine.specs.Work.{adds_line, line_fits};
-ghost use Rattle.lsv_keeper.specs.Frames.{LineKeeps};
+ghost use Rattle.lsv_keeper.specs.Frames.{LineKeeps, StageKeeps};
 ghost use Rattle.lsv_keeper.specs.Represents.{Represents};
 ghost use Rattle.lsv_keeper.specs.Views.{view_of};
-ghost use Rattle.lsv_keeper.specs.Rows.{Beside, LineFault};
+ghost use Rattle.lsv_keeper.specs.Rows.{LineFault};
 ghost use Rattle.lsv_keeper.specs.Accepting.{failed_before, line_refusal};
 ghost use Rattle.lsv_keeper.specs.Value.{KeeperView};
-ghost use Rattle.lsv_keeper.specs.Syncing.{NoLogUsed};
-ghost use Rattle.lsv_keeper.specs.Causes.{LinesDo};
 
 use crate::Keeper;
 use lsv_bundle::BundleFault;
@@ -93,9 +91,7 @@ fn stage_line<D: Disk>(
         (line_fits line.now m ≡ true) × Represents (record v { events = events.new }) (D.view disk.new) (record m { fresh = m.fresh ++ line.now })) }
     ensures refused { D.tells → IfErr result (λ why. (v : KeeperView) (m : Machine) → v.lane ≡ lane → v.events ≡ events.old → Represents v (D.view disk.old) m →
         LineFault lane line.now m why (D.view disk.old) (D.view disk.new) × Represents (record v { events = events.new }) (D.view disk.new) m) }
-    ensures beside { D.tells → (v : KeeperView) (m : Machine) → v.lane ≡ lane → v.events ≡ events.old → Represents v (D.view disk.old) m → Beside lane v.lanes None (D.view disk.old) (D.view disk.new) }
-    ensures syncs { D.tells → NoLogUsed (D.view disk.old) (D.view disk.new) }
-    ensures does { LinesDo (IsErrOf result Refusal.DeviceFault) events.old events.new (D.view disk.old) (D.view disk.new) }
+    ensures frame { StageKeeps D.tells lane (IsErrOf result Refusal.DeviceFault) events.old events.new (D.view disk.old) (D.view disk.new) }
 {
     let Err(fault) = events.add(line) else {
         return Ok(());

@@ -1,22 +1,20 @@
 //! Exits.
 
-ghost use Rattle.std.specs.Prelude.{◌≡◌, ◌≤◌, ℕ, true, None, Some, Ok, IfErr, IsSome, OnOk, Option, [], ◌∷◌, IsErrOf};
+ghost use Rattle.std.specs.Prelude.{◌≡◌, ◌≤◌, true, None, Ok, IfErr, IsSome, OnOk, [], ◌∷◌, IsErrOf};
 ghost use Rattle.lsv_base.specs.Time.{nanos_of};
 ghost use Rattle.lsv_msg.specs.declared.messages.ClientMessage.{ClientMessage};
 ghost use Rattle.lsv_request.specs.declared.request.Request.TheVariants as request;
-ghost use Rattle.lsv_session.specs.declared.job.Job.{Job};
 ghost use Rattle.lsv_machine.specs.Failures.{AsksFor};
 ghost use Rattle.lsv_machine.specs.Judgement.{judged};
 ghost use Rattle.lsv_machine.specs.Machine.{Machine, log_of};
 ghost use Rattle.lsv_keeper.specs.Exits.{LineAdded, LineRefused};
-ghost use Rattle.lsv_keeper.specs.Frames.{CallKeeps, LineKeeps};
+ghost use Rattle.lsv_keeper.specs.Calls.{DoesCall, DoesIfWriting};
+ghost use Rattle.lsv_keeper.specs.Frames.{LineKeeps};
 ghost use Rattle.lsv_keeper.specs.Jobs.{DoesRequest};
 ghost use Rattle.lsv_keeper.specs.Represents.{Represents};
-ghost use Rattle.lsv_keeper.specs.Rows.{IsTold, RowGives};
-ghost use Rattle.lsv_keeper.specs.Value.{Keeps, event_line, room, sessions_of};
+ghost use Rattle.lsv_keeper.specs.Value.{event_line, room, sessions_of};
 ghost use Rattle.lsv_keeper.specs.Views.{view_of};
-ghost use Rattle.lsv_keeper.specs.Syncing.{NoLog, Syncs};
-ghost use Rattle.lsv_keeper.specs.Causes.{Does, TellsFault};
+ghost use Rattle.lsv_keeper.specs.Causes.{TellsFault};
 
 use crate::Keeper;
 use crate::logs::log_refusal;
@@ -68,10 +66,8 @@ impl<F: LineWriter, H: Search> Keeper<F, H> {
         requires room { 1 ≤ room (view_of self.old) }
         requires timed { IsSome (nanos_of now) }
         requires run { IsSome (nanos_of exit.run) }
-        ensures frame { CallKeeps D.tells (conn ∷ []) ((view_of self.old).log_exit ≡ true) (TellsFault result) (view_of self.old) (view_of self.new) (D.view disk.old) (D.view disk.new) }
-        ensures told { IsTold result }
-        ensures row { D.tells → (m : Machine) (job : Job) → Represents (view_of self.old) (D.view disk.old) m → job.conn ≡ conn → log_of (m.states conn) ≡ None → AsksFor (m.states conn) job.body (request.Exit exit)
-            → RowGives (view_of self.old) now job result m (view_of self.new) (D.view disk.old) (D.view disk.new) }
+        ensures { DoesCall D.tells now conn (λ m job. (log_of (m.states conn) ≡ None) × AsksFor (m.states conn) job.body (request.Exit exit)) (conn ∷ []) ((view_of self.old).log_exit ≡ true) (TellsFault result)
+            result (view_of self.old) (view_of self.new) (D.view disk.old) (D.view disk.new) }
     {
         self.enter_state(disk, conn, ConnState::Dead);
         match self.exit_line(disk, now, conn, None, exit) {
@@ -93,12 +89,7 @@ impl<F: LineWriter, H: Search> Keeper<F, H> {
         requires room { 1 ≤ room (view_of self.old) }
         requires timed { IsSome (nanos_of now) }
         requires run { IsSome (nanos_of exit.run) }
-        ensures keeps { Keeps (view_of self.old) (view_of self.new) }
-        ensures told { IsTold result }
-        ensures row { D.tells → (m : Machine) (job : Job) → Represents (view_of self.old) (D.view disk.old) m → job.conn ≡ conn → log_of (m.states conn) ≡ Some log → AsksFor (m.states conn) job.body (request.Exit exit)
-            → RowGives (view_of self.old) now job result m (view_of self.new) (D.view disk.old) (D.view disk.new) }
-        ensures syncs { D.tells → (m : Machine) → Represents (view_of self.old) (D.view disk.old) m → log_of (m.states conn) ≡ Some log → Syncs NoLog (view_of self.old) (view_of self.new) (D.view disk.old) (D.view disk.new) }
-        ensures does { log_of ((sessions_of (view_of self.old)).states conn) ≡ Some log → Does (conn ∷ []) ((view_of self.old).log_exit ≡ true) (TellsFault result) (view_of self.old) (view_of self.new) (D.view disk.old) (D.view disk.new) }
+        ensures { DoesIfWriting D.tells now conn log (request.Exit exit) result (view_of self.old) (view_of self.new) (D.view disk.old) (D.view disk.new) }
     {
         let Some(mut its) = self.logs.take(log) else {
             return Told::Nothing;

@@ -1,25 +1,23 @@
 //! Connections that come to their end: refused, gone, or shut; and what they wrote.
 
-ghost use Rattle.std.specs.Prelude.{◌≡◌, ◌≤◌, ◌+◌, ℕ, true, false, [], Some, None};
+ghost use Rattle.std.specs.Prelude.{◌≡◌, ◌≤◌, ℕ, true, false, [], Some, None};
 ghost use Rattle.lsv_base.specs.declared.time.TimeSpec.{TimeSpec};
 ghost use Rattle.lsv_session.specs.declared.connection.ConnState.{ConnState};
 ghost use Rattle.lsv_session.specs.declared.job.Body.{Body};
-ghost use Rattle.lsv_session.specs.declared.job.Job.{Job};
 ghost use Rattle.lsv_machine.specs.Machine.{Machine, is_dead};
 ghost use Rattle.lsv_machine.specs.Work.{plain, refused};
-ghost use Rattle.lsv_keeper.specs.Frames.{CallKeeps, EntersState};
+ghost use Rattle.lsv_keeper.specs.Calls.{ComesInto, DoesCall, LetsLogGo, Releases};
+ghost use Rattle.lsv_keeper.specs.Frames.{EntersState};
 ghost use Rattle.lsv_keeper.specs.Represents.{Represents};
 ghost use Rattle.lsv_keeper.specs.Views.{view_of};
-ghost use Rattle.lsv_keeper.specs.Rows.{Left, RowGives};
 ghost use Rattle.lsv_session.specs.Table.{room_for};
 ghost use Rattle.lsv_session.specs.declared.job.Body.TheVariants as bodies;
 ghost use Rattle.lsv_machine.specs.Machine.{log_of};
 ghost use Rattle.lsv_machine.specs.Answers.{refusal};
 ghost use Rattle.lsv_machine.specs.History.{is_look};
-ghost use Rattle.lsv_keeper.specs.Leaving.{Departs, TakenOut};
-ghost use Rattle.lsv_keeper.specs.Value.{KeeperView, Keeps, room, sessions_of, settings_of};
+ghost use Rattle.lsv_keeper.specs.Leaving.{TakenOut};
+ghost use Rattle.lsv_keeper.specs.Value.{KeeperView, room, sessions_of, settings_of};
 ghost use Rattle.lsv_keeper.specs.declared.told.Told.{Told};
-ghost use Rattle.lsv_keeper.specs.Syncing.{NoLog, Syncs};
 ghost use Rattle.lsv_keeper.specs.Causes.{LetsGo};
 
 use crate::Keeper;
@@ -40,9 +38,7 @@ impl<F: LineWriter, H: Search> Keeper<F, H> {
         requires stands { D.tells → (m : Machine) × Represents (view_of self.old) (D.view disk.old) m }
         requires writes_none { log_of state ≡ None }
         requires room { room_for ((sessions_of (view_of self.old)).states conn) state ≤ room (view_of self.old) }
-        ensures frame { CallKeeps D.tells [] ⊥ ⊥ (view_of self.old) (view_of self.new) (D.view disk.old) (D.view disk.new) }
-        ensures enters { EntersState conn state (view_of self.old) (view_of self.new) }
-        ensures left { D.tells → (m : Machine) → Represents (view_of self.old) (D.view disk.old) m → Left conn state (view_of self.old) m (view_of self.new) (D.view disk.old) (D.view disk.new) }
+        ensures { ComesInto D.tells conn state (view_of self.old) (view_of self.new) (D.view disk.old) (D.view disk.new) }
     {
         match log_of(self.table.state(conn)) {
             Some(log) => match self.logs.take(log) {
@@ -68,13 +64,8 @@ impl<F: LineWriter, H: Search> Keeper<F, H> {
         requires taken_out { D.tells → (before : KeeperView) × (m : Machine) × TakenOut log its before (view_of self.old) × Represents before (D.view disk.old) m }
         requires writes_none { log_of state ≡ None }
         requires room { room_for ((sessions_of (view_of self.old)).states conn) state ≤ room (view_of self.old) }
-        ensures keeps { Keeps (view_of self.old) (view_of self.new) }
+        ensures gone { LetsLogGo D.tells (λ before. TakenOut log its before (view_of self.old)) (LetsGo log (view_of self.old) (view_of self.new) (D.view disk.old) (D.view disk.new)) log conn state (view_of self.old) (view_of self.new) (D.view disk.old) (D.view disk.new) }
         ensures enters { EntersState conn state (view_of self.old) (view_of self.new) }
-        ensures left { D.tells → (before : KeeperView) (m : Machine) → TakenOut log its before (view_of self.old) → Represents before (D.view disk.old) m → log_of (m.states conn) ≡ Some log
-            → Left conn state before m (view_of self.new) (D.view disk.old) (D.view disk.new) }
-        ensures syncs { D.tells → (before : KeeperView) (m : Machine) → TakenOut log its before (view_of self.old) → Represents before (D.view disk.old) m → log_of (m.states conn) ≡ Some log
-            → Syncs NoLog before (view_of self.new) (D.view disk.old) (D.view disk.new) }
-        ensures does { log_of ((sessions_of (view_of self.old)).states conn) ≡ Some log → LetsGo log (view_of self.old) (view_of self.new) (D.view disk.old) (D.view disk.new) }
     {
         let mut its = its;
         let _ = its.log.flush(disk);
@@ -84,9 +75,7 @@ impl<F: LineWriter, H: Search> Keeper<F, H> {
     /// The connection comes into a state, and nobody writes the log any more.
     pub(crate) fn release(&mut self, conn: ConnId, state: ConnState, log: LogNo)
         requires room { room_for ((sessions_of (view_of self.old)).states conn) state ≤ room (view_of self.old) }
-        ensures departs { Departs (Some log) conn state (view_of self.old) (view_of self.new) }
-        ensures logs { self.new.logs ≡ self.old.logs }
-        ensures room { room (view_of self.old) ≤ room (view_of self.new) + 1 }
+        ensures { Releases log conn state (view_of self.old) (view_of self.new) }
     {
         remove(&mut self.waiting, log);
         self.table.release_log(log);
@@ -97,11 +86,9 @@ impl<F: LineWriter, H: Search> Keeper<F, H> {
     pub(crate) fn refuse<D: Disk>(&mut self, disk: &mut D, conn: ConnId, why: Refusal) -> Told
         requires stands { D.tells → (m : Machine) × Represents (view_of self.old) (D.view disk.old) m }
         requires room { 1 ≤ room (view_of self.old) }
-        ensures frame { CallKeeps D.tells [] ⊥ ⊥ (view_of self.old) (view_of self.new) (D.view disk.old) (D.view disk.new) }
         ensures told { result ≡ Told.Refused why }
-        ensures row { D.tells → (m : Machine) (job : Job) (now : TimeSpec) → Represents (view_of self.old) (D.view disk.old) m → job.conn ≡ conn → is_dead (m.states conn) ≡ false
-            → is_look (refusal conn why) ≡ false → ((n : ℕ) → plain (settings_of (view_of self.old)) now job n m ≡ refused conn why m)
-            → RowGives (view_of self.old) now job result m (view_of self.new) (D.view disk.old) (D.view disk.new) }
+        ensures done { (now : TimeSpec) → DoesCall D.tells now conn (λ m job. (is_dead (m.states conn) ≡ false) × (is_look (refusal conn why) ≡ false) × ((n : ℕ) → plain (settings_of (view_of self.old)) now job n m ≡ refused conn why m))
+            [] ⊥ ⊥ result (view_of self.old) (view_of self.new) (D.view disk.old) (D.view disk.new) }
     {
         self.enter_state(disk, conn, ConnState::Dead);
         Told::Refused(why)
@@ -110,10 +97,9 @@ impl<F: LineWriter, H: Search> Keeper<F, H> {
     /// The connection went.
     pub(crate) fn farewell<D: Disk>(&mut self, disk: &mut D, conn: ConnId) -> Told
         requires stands { D.tells → (m : Machine) × Represents (view_of self.old) (D.view disk.old) m }
-        ensures frame { CallKeeps D.tells [] ⊥ ⊥ (view_of self.old) (view_of self.new) (D.view disk.old) (D.view disk.new) }
         ensures told { result ≡ Told.Farewell }
-        ensures row { D.tells → (m : Machine) (job : Job) (now : TimeSpec) → Represents (view_of self.old) (D.view disk.old) m → job.conn ≡ conn → job.body ≡ bodies.Gone → is_dead (m.states conn) ≡ false
-            → RowGives (view_of self.old) now job result m (view_of self.new) (D.view disk.old) (D.view disk.new) }
+        ensures done { (now : TimeSpec) → DoesCall D.tells now conn (λ m job. (job.body ≡ bodies.Gone) × (is_dead (m.states conn) ≡ false))
+            [] ⊥ ⊥ result (view_of self.old) (view_of self.new) (D.view disk.old) (D.view disk.new) }
     {
         forget(&mut self.noting, conn);
         self.enter_state(disk, conn, ConnState::Fresh);
@@ -123,10 +109,9 @@ impl<F: LineWriter, H: Search> Keeper<F, H> {
     /// A job of a dead connection is dropped, and a `Gone` forgets the connection.
     pub(crate) fn drop_job<D: Disk>(&mut self, disk: &mut D, conn: ConnId, body: &Body) -> Told
         requires stands { D.tells → (m : Machine) × Represents (view_of self.old) (D.view disk.old) m }
-        ensures frame { CallKeeps D.tells [] ⊥ ⊥ (view_of self.old) (view_of self.new) (D.view disk.old) (D.view disk.new) }
         ensures told { result ≡ Told.Nothing }
-        ensures row { D.tells → (m : Machine) (job : Job) (now : TimeSpec) → Represents (view_of self.old) (D.view disk.old) m → job.conn ≡ conn → job.body ≡ body.now → is_dead (m.states conn) ≡ true
-            → RowGives (view_of self.old) now job result m (view_of self.new) (D.view disk.old) (D.view disk.new) }
+        ensures done { (now : TimeSpec) → DoesCall D.tells now conn (λ m job. (job.body ≡ body.now) × (is_dead (m.states conn) ≡ true))
+            [] ⊥ ⊥ result (view_of self.old) (view_of self.new) (D.view disk.old) (D.view disk.new) }
     {
         if let Body::Gone = body {
             forget(&mut self.noting, conn);

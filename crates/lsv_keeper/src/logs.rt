@@ -1,14 +1,14 @@
 //! The logs that connections write.
 
-ghost use Rattle.std.specs.Prelude.{◌≡◌, ◌≤◌, ℕ, false, Some, None, OnOk, IfErr, IfSome, IfNone};
+ghost use Rattle.std.specs.Prelude.{◌≡◌, ◌≤◌, false, Some, None, OnOk, IfErr, IfSome, IfNone};
 ghost use Rattle.std.specs.Bool.{OnTrue};
 ghost use Rattle.lsv_iolog.specs.Represents.{Represents};
 ghost use Rattle.lsv_iolog.specs.Value.{LogValue, is_complete};
 ghost use Rattle.lsv_record.specs.Records.{IsValid};
-ghost use Rattle.lsv_keeper.specs.Logs.{Appends, Covers, Flushes, IsAt, RefusesRecord, TakesRecord, log_refusal, open_logs, spare_logs, with_open};
+ghost use Rattle.lsv_keeper.specs.Logs.{Appends, Covers, IsAt, MakesRoom, RefusesRecord, TakesOut, TakesRecord, log_refusal, open_logs, spare_logs, with_open};
 ghost use Rattle.lsv_keeper.specs.declared.logs.Appended.{Appended};
 ghost use Rattle.lsv_keeper.specs.declared.logs.OpenLog.{OpenLog};
-ghost use Rattle.lsv_keeper.specs.Causes.{FlushKeeps};
+ghost use Rattle.lsv_keeper.specs.Calls.{FlushesOpen};
 
 use indexmap::IndexMap;
 use lsv_base::{Bytes, List, LogNo, NoMem, Point};
@@ -69,9 +69,7 @@ impl OpenLogs {
 
     /// Room for one log more.
     pub fn reserve(&mut self) -> Result<(), NoMem>
-        ensures same { open_logs self.new ≡ open_logs self.old }
-        ensures ok { OnOk result (1 ≤ spare_logs self.new) }
-        ensures kept { spare_logs self.old ≤ spare_logs self.new }
+        ensures { MakesRoom result self.old self.new }
     {
         self.map.reserve(1)?;
         Ok(())
@@ -87,9 +85,7 @@ impl OpenLogs {
 
     /// Takes out the log of a number.
     pub fn take(&mut self, log: LogNo) -> Option<OpenLog>
-        ensures taken { result ≡ open_logs self.old log }
-        ensures rest { open_logs self.new ≡ with_open log None (open_logs self.old) }
-        ensures room { spare_logs self.old ≤ spare_logs self.new }
+        ensures { TakesOut log result self.old self.new }
     {
         self.map.swap_remove(&log.get())
     }
@@ -155,9 +151,7 @@ impl OpenLogs {
     /// then it isn't open any more.
     pub fn flush<D: Disk>(&mut self, disk: &mut D, log: LogNo) -> Option<Point>
         requires represents { D.tells → (its : OpenLog) → open_logs self.old log ≡ Some its → its.log.is_broken ≡ false → (value : LogValue) × Represents its.log value (D.view disk.old) }
-        ensures flushed { D.tells → (its : OpenLog) (value : LogValue) → open_logs self.old log ≡ Some its → Represents its.log value (D.view disk.old)
-            → Flushes log its value result (open_logs self.old) (open_logs self.new) (D.view disk.old) (D.view disk.new) }
-        ensures keeps { FlushKeeps log result (open_logs self.old) (open_logs self.new) (D.view disk.old) (D.view disk.new) }
+        ensures { FlushesOpen D.tells log result (open_logs self.old) (open_logs self.new) (D.view disk.old) (D.view disk.new) }
     {
         let its = self.map.get_mut(&log.get())?;
         match its.log.flush(disk) {

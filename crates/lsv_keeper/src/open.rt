@@ -10,6 +10,7 @@ ghost use Rattle.lsv_eventlog.specs.Recovered.{HoldsLines, IsOfEventLog};
 ghost use Rattle.lsv_eventlog.specs.Value.{committed_text, is_broken};
 ghost use Rattle.lsv_machine.specs.Disks.{NumbersFit};
 ghost use Rattle.lsv_machine.specs.Keeping.{OpensStore};
+ghost use Rattle.lsv_keeper.specs.Calls.{OpensPart};
 ghost use Rattle.lsv_keeper.specs.Causes.{HasFailed};
 ghost use Rattle.lsv_keeper.specs.Opening.{IsEventsFault, IsNumbersFault, IsSetTo, IsStoreFault, KeepsEntry, OpensAs, OpensEvents, OpensNumbers, events_fault, number_fault};
 ghost use Rattle.lsv_keeper.specs.Reading.{reading_of};
@@ -35,10 +36,8 @@ fn open_numbers<D: Disk>(disk: &mut D, lane: u32, lanes: u32) -> Result<Numbers,
     requires lanes { lanes ≤ 8 }
     ensures opened { D.tells → IfOk result (OpensNumbers lane lanes (D.view disk.old) (D.view disk.new)) }
     ensures fault { D.tells → IfErr result (IsNumbersFault lane lanes (D.view disk.old).reads) }
-    ensures store { D.tells → OpensStore (reading_of lane lanes) lane lanes (D.view disk.old) (D.view disk.new) }
-    ensures run { D.tells → Throughout (λ g. g ≡ numbers_file lane) (λ _. Unit {0}) (D.view disk.old) (D.view disk.new) }
+    ensures store { OpensPart D.tells (λ g. g ≡ numbers_file lane) lane lanes (D.view disk.old) (D.view disk.new) }
     ensures kept { D.tells → entry_at lane (D.view disk.old).reads ≢ None → KeepsEntry lane (D.view disk.old) (D.view disk.new) }
-    ensures unused { D.tells → NoLogUsed (D.view disk.old) (D.view disk.new) }
     ensures sound { IfOk result (λ n. pending_of n ≡ None) }
     ensures cause { (o : Owner) → HasOwnCause (λ f. f.owner ≡ o) (IsErrOf result (StoreFault.Device o)) (D.view disk.old) (D.view disk.new) }
 {
@@ -63,9 +62,7 @@ fn number_fault(lane: u32, fault: SeqFault) -> StoreFault
 fn open_events<D: Disk>(alloc: Global, disk: &mut D, lane: u32) -> Result<EventLog, StoreFault>
     ensures opened { D.tells → IfOk result (OpensEvents lane (D.view disk.old) (D.view disk.new)) }
     ensures fault { D.tells → IfErr result (IsEventsFault lane (D.view disk.old).reads) }
-    ensures store { D.tells → (lanes : ℕ) → OpensStore (reading_of lane lanes) lane lanes (D.view disk.old) (D.view disk.new) }
-    ensures run { D.tells → Throughout (IsOfEventLog lane) (λ _. Unit {0}) (D.view disk.old) (D.view disk.new) }
-    ensures unused { D.tells → NoLogUsed (D.view disk.old) (D.view disk.new) }
+    ensures store { (lanes : ℕ) → OpensPart D.tells (IsOfEventLog lane) lane lanes (D.view disk.old) (D.view disk.new) }
     ensures sound { IfOk result (λ l. is_broken l ≡ false) }
     ensures cause { (o : Owner) → HasOwnCause (λ f. f.owner ≡ o) (IsErrOf result (StoreFault.Device o)) (D.view disk.old) (D.view disk.new) }
 {

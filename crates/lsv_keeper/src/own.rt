@@ -1,10 +1,11 @@
 //! A connection comes to write a log.
 
-ghost use Rattle.std.specs.Prelude.{◌≡◌, ◌≤◌, None, Some, OnOk};
+ghost use Rattle.std.specs.Prelude.{◌≤◌, Some};
 ghost use Rattle.lsv_session.specs.Table.{room_for, spare_owners};
 ghost use Rattle.lsv_session.specs.declared.connection.ConnState.TheVariants.{Running};
 ghost use Rattle.lsv_keeper.specs.Logs.{spare_logs};
-ghost use Rattle.lsv_keeper.specs.Value.{IsReserved, Keeps, Owns, owed, room, sessions_of};
+ghost use Rattle.lsv_keeper.specs.Calls.{ComesToOwn, ReservesLog};
+ghost use Rattle.lsv_keeper.specs.Value.{room, sessions_of};
 ghost use Rattle.lsv_keeper.specs.Views.{view_of};
 
 use crate::Keeper;
@@ -17,8 +18,7 @@ use lsv_session::{ConnId, ConnState};
 impl<F: LineWriter, H: Search> Keeper<F, H> {
     /// Room for one more log that a connection writes. Nothing else is otherwise.
     pub(crate) fn reserve_log(&mut self) -> Result<(), NoMem>
-        ensures same { IsReserved (view_of self.old) (view_of self.new) }
-        ensures ok { OnOk result ((1 ≤ spare_owners (view_of self.new).table) × (1 ≤ spare_logs (view_of self.new).logs)) }
+        ensures { ReservesLog result (view_of self.old) (view_of self.new) }
     {
         self.table.reserve_owners(1)?;
         self.logs.reserve()
@@ -29,9 +29,7 @@ impl<F: LineWriter, H: Search> Keeper<F, H> {
         requires owners { 1 ≤ spare_owners (view_of self.old).table }
         requires logs { 1 ≤ spare_logs (view_of self.old).logs }
         requires room { room_for ((sessions_of (view_of self.old)).states conn) (Running (Some number)) ≤ room (view_of self.old) }
-        ensures keeps { Keeps (view_of self.old) (view_of self.new) }
-        ensures owed { owed (view_of self.new) ≡ owed (view_of self.old) }
-        ensures owns { (sessions_of (view_of self.old)).owner number ≡ None → Owns conn number its (view_of self.old) (view_of self.new) }
+        ensures { ComesToOwn conn number its (view_of self.old) (view_of self.new) }
     {
         let _ = self.table.claim(number, conn);
         let _ = self.table.set(conn, ConnState::Running(Some(number)));

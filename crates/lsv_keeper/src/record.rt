@@ -1,24 +1,21 @@
 //! Records.
 
-ghost use Rattle.std.specs.Prelude.{◌≡◌, ◌≤◌, ◌<◌, ℕ, false, Some, vec_capacity, vec_len, [], ◌∷◌};
+ghost use Rattle.std.specs.Prelude.{◌≡◌, ◌≤◌, ◌<◌, false, Some, vec_capacity, vec_len, []};
 ghost use Rattle.lsv_base.specs.declared.time.TimeSpec.{TimeSpec};
 ghost use Rattle.lsv_record.specs.Records.{IsValid};
 ghost use Rattle.lsv_request.specs.declared.request.Request.TheVariants as request;
 ghost use Rattle.lsv_session.specs.declared.job.Body.TheVariants as bodies;
-ghost use Rattle.lsv_session.specs.declared.job.Job.{Job};
-ghost use Rattle.lsv_machine.specs.Failures.{AsksFor};
 ghost use Rattle.lsv_machine.specs.Machine.{Machine, is_dead, log_of};
-ghost use Rattle.lsv_keeper.specs.Frames.{CallKeeps};
+ghost use Rattle.lsv_keeper.specs.Calls.{DoesCall, DoesIfWriting, LetsLogGo};
 ghost use Rattle.lsv_keeper.specs.Jobs.{DoesRequest};
 ghost use Rattle.lsv_keeper.specs.Logs.{IsWindowFit};
 ghost use Rattle.lsv_keeper.specs.Represents.{Represents};
 ghost use Rattle.lsv_keeper.specs.Moved.{MaskMoved};
-ghost use Rattle.lsv_keeper.specs.Rows.{IsTold, Left, RowGives, told_of};
-ghost use Rattle.lsv_keeper.specs.Value.{Keeps, KeeperView, room, sessions_of};
+ghost use Rattle.lsv_keeper.specs.Rows.{told_of};
+ghost use Rattle.lsv_keeper.specs.Value.{KeeperView, room, sessions_of};
 ghost use Rattle.lsv_keeper.specs.declared.logs.OpenLog.{OpenLog};
 ghost use Rattle.lsv_session.specs.declared.connection.ConnState.TheVariants.{Dead};
 ghost use Rattle.lsv_keeper.specs.Views.{view_of};
-ghost use Rattle.lsv_keeper.specs.Syncing.{NoLog, Syncs};
 ghost use Rattle.lsv_keeper.specs.Causes.{Does};
 
 use crate::Keeper;
@@ -84,11 +81,7 @@ impl<F: LineWriter, H: Search> Keeper<F, H> {
         requires room { 1 ≤ room (view_of self.old) }
         requires waiting { vec_len self.old.waiting < vec_capacity self.old.waiting }
         requires valid { IsValid r }
-        ensures keeps { Keeps (view_of self.old) (view_of self.new) }
-        ensures row { D.tells → (m : Machine) (job : Job) (now : TimeSpec) → Represents (view_of self.old) (D.view disk.old) m → job.conn ≡ conn → log_of (m.states conn) ≡ Some log → AsksFor (m.states conn) job.body (request.Record r)
-            → RowGives (view_of self.old) now job (told_of result) m (view_of self.new) (D.view disk.old) (D.view disk.new) }
-        ensures syncs { D.tells → (m : Machine) → Represents (view_of self.old) (D.view disk.old) m → log_of (m.states conn) ≡ Some log → Syncs NoLog (view_of self.old) (view_of self.new) (D.view disk.old) (D.view disk.new) }
-        ensures does { log_of ((sessions_of (view_of self.old)).states conn) ≡ Some log → Does (conn ∷ []) ⊥ (result ≡ Some Refusal.DeviceFault) (view_of self.old) (view_of self.new) (D.view disk.old) (D.view disk.new) }
+        ensures { (now : TimeSpec) → DoesIfWriting D.tells now conn log (request.Record r) (told_of result) (view_of self.old) (view_of self.new) (D.view disk.old) (D.view disk.new) }
     {
         let mut r = r;
         match self.logs.append(log, &self.prompt, &self.texts, &mut r) {
@@ -111,12 +104,7 @@ impl<F: LineWriter, H: Search> Keeper<F, H> {
     fn release_refused<D: Disk>(&mut self, disk: &mut D, conn: ConnId, log: LogNo)
         requires moved { D.tells → (before : KeeperView) × (its : OpenLog) × (m : Machine) × MaskMoved log its before (view_of self.old) × Represents before (D.view disk.old) m }
         requires room { 1 ≤ room (view_of self.old) }
-        ensures keeps { Keeps (view_of self.old) (view_of self.new) }
-        ensures left { D.tells → (before : KeeperView) (its : OpenLog) (m : Machine) → MaskMoved log its before (view_of self.old) → Represents before (D.view disk.old) m → log_of (m.states conn) ≡ Some log
-            → Left conn Dead before m (view_of self.new) (D.view disk.old) (D.view disk.new) }
-        ensures syncs { D.tells → (before : KeeperView) (its : OpenLog) (m : Machine) → MaskMoved log its before (view_of self.old) → Represents before (D.view disk.old) m → log_of (m.states conn) ≡ Some log
-            → Syncs NoLog before (view_of self.new) (D.view disk.old) (D.view disk.new) }
-        ensures does { log_of ((sessions_of (view_of self.old)).states conn) ≡ Some log → Does [] ⊥ ⊥ (view_of self.old) (view_of self.new) (D.view disk.old) (D.view disk.new) }
+        ensures { LetsLogGo D.tells (λ before. (its : OpenLog) × MaskMoved log its before (view_of self.old)) (Does [] ⊥ ⊥ (view_of self.old) (view_of self.new) (D.view disk.old) (D.view disk.new)) log conn Dead (view_of self.old) (view_of self.new) (D.view disk.old) (D.view disk.new) }
     {
         let Some(its) = self.logs.take(log) else {
             return;
@@ -128,11 +116,9 @@ impl<F: LineWriter, H: Search> Keeper<F, H> {
     pub(crate) fn want_memory<D: Disk>(&mut self, disk: &mut D, conn: ConnId) -> Told
         requires stands { D.tells → (m : Machine) × Represents (view_of self.old) (D.view disk.old) m }
         requires room { 1 ≤ room (view_of self.old) }
-        ensures frame { CallKeeps D.tells [] ⊥ ⊥ (view_of self.old) (view_of self.new) (D.view disk.old) (D.view disk.new) }
-        ensures is { result ≡ Told.Refused Refusal.OutOfMemory }
-        ensures told { IsTold result }
-        ensures row { D.tells → (m : Machine) (job : Job) (now : TimeSpec) → Represents (view_of self.old) (D.view disk.old) m → job.conn ≡ conn → is_dead (m.states conn) ≡ false → (job.body ≡ bodies.Gone → ⊥)
-            → RowGives (view_of self.old) now job result m (view_of self.new) (D.view disk.old) (D.view disk.new) }
+        ensures told { result ≡ Told.Refused Refusal.OutOfMemory }
+        ensures done { (now : TimeSpec) → DoesCall D.tells now conn (λ m job. (is_dead (m.states conn) ≡ false) × (job.body ≡ bodies.Gone → ⊥))
+            [] ⊥ ⊥ result (view_of self.old) (view_of self.new) (D.view disk.old) (D.view disk.new) }
     {
         self.enter_state(disk, conn, ConnState::Dead);
         Told::Refused(Refusal::OutOfMemory)

@@ -7,16 +7,14 @@ ghost use Rattle.lsv_event.specs.Events.{IsTimed};
 ghost use Rattle.lsv_event.specs.Lines.{line_of};
 ghost use Rattle.lsv_request.specs.declared.request.Request.{Request};
 ghost use Rattle.lsv_request.specs.declared.request.Request.TheVariants as requests;
-ghost use Rattle.lsv_session.specs.declared.job.Job.{Job};
 ghost use Rattle.lsv_msg.specs.declared.messages.ClientMessage.{ClientMessage};
 ghost use Rattle.lsv_machine.specs.Failures.{AsksFor};
 ghost use Rattle.lsv_machine.specs.Judgement.{judged};
 ghost use Rattle.lsv_machine.specs.Machine.{Machine};
 ghost use Rattle.lsv_keeper.specs.Accepting.{EntersNoLog, IsEventOf, unless_running};
-ghost use Rattle.lsv_keeper.specs.Frames.{CallKeeps};
+ghost use Rattle.lsv_keeper.specs.Calls.{DoesCall};
 ghost use Rattle.lsv_keeper.specs.Jobs.{DoesRequest};
 ghost use Rattle.lsv_keeper.specs.Represents.{Represents};
-ghost use Rattle.lsv_keeper.specs.Rows.{IsTold, RowGives};
 ghost use Rattle.lsv_keeper.specs.Value.{peer_of, room, sessions_of, settings_of};
 ghost use Rattle.lsv_keeper.specs.Views.{view_of};
 ghost use Rattle.lsv_keeper.specs.Causes.{TellsFault};
@@ -145,11 +143,8 @@ impl<F: LineWriter, H: Search> Keeper<F, H> {
         requires writes_none { EntersNoLog next }
         requires stands { D.tells → (m : Machine) × Represents (view_of self.old) (D.view disk.old) m }
         requires room { 1 ≤ room (view_of self.old) }
-        ensures frame { CallKeeps D.tells (conn ∷ []) (Unit {0}) (TellsFault result) (view_of self.old) (view_of self.new) (D.view disk.old) (D.view disk.new) }
-        ensures told { IsTold result }
-        ensures row { D.tells → (m : Machine) (job : Job) (now : TimeSpec) (asked : Request) → Represents (view_of self.old) (D.view disk.old) m → job.conn ≡ conn → AsksFor (m.states conn) job.body asked
-            → IsEventOf (settings_of (view_of self.old)) now conn (m.states conn) asked (line_of (view_of self.old).kind event.now) next m
-            → RowGives (view_of self.old) now job result m (view_of self.new) (D.view disk.old) (D.view disk.new) }
+        ensures { (now : TimeSpec) (asked : Request) → DoesCall D.tells now conn (λ m job. AsksFor (m.states conn) job.body asked × IsEventOf (settings_of (view_of self.old)) now conn (m.states conn) asked (line_of (view_of self.old).kind event.now) next m)
+            (conn ∷ []) (Unit {0}) (TellsFault result) result (view_of self.old) (view_of self.new) (D.view disk.old) (D.view disk.new) }
     {
         if let Err(why) = self.add_line(disk, conn, event) {
             self.enter_state(disk, conn, ConnState::Dead);

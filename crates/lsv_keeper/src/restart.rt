@@ -1,19 +1,14 @@
 //! Restarts: a connection goes on with a log.
 
-ghost use Rattle.std.specs.Prelude.{◌≡◌, ◌≢◌, ◌≤◌, ℕ, OnOk, IfOk, IfErr, false};
+ghost use Rattle.std.specs.Prelude.{◌≤◌};
 ghost use Rattle.lsv_base.specs.declared.time.TimeSpec.{TimeSpec};
-ghost use Rattle.lsv_disk.specs.declared.file.FileId.{FileId};
 ghost use Rattle.lsv_request.specs.declared.request.Request.TheVariants as request;
-ghost use Rattle.lsv_session.specs.Table.{spare_owners};
 ghost use Rattle.lsv_machine.specs.Machine.{Machine};
+ghost use Rattle.lsv_keeper.specs.Calls.{ReservesLog, Resumes};
 ghost use Rattle.lsv_keeper.specs.Jobs.{DoesRequest};
-ghost use Rattle.lsv_keeper.specs.Logs.{spare_logs};
 ghost use Rattle.lsv_keeper.specs.Represents.{Represents};
-ghost use Rattle.lsv_keeper.specs.Resuming.{IsResumed, IsResumeFault, restart_refusal};
-ghost use Rattle.lsv_keeper.specs.Value.{IsReserved, room};
+ghost use Rattle.lsv_keeper.specs.Value.{room};
 ghost use Rattle.lsv_keeper.specs.Views.{view_of};
-ghost use Rattle.lsv_keeper.specs.Syncing.{Unused};
-ghost use Rattle.lsv_keeper.specs.Causes.{StoreRose};
 
 use crate::Keeper;
 use crate::logs::OpenLog;
@@ -57,14 +52,8 @@ impl<F: LineWriter, H: Search> Keeper<F, H> {
         number: LogNo,
         point: Point,
     ) -> Result<OpenLog, LogFault>
-        ensures same { IsReserved (view_of self.old) (view_of self.new) }
-        ensures ok { OnOk result ((1 ≤ spare_owners (view_of self.new).table) × (1 ≤ spare_logs (view_of self.new).logs)) }
-        ensures resumed { D.tells → IfOk result (λ its. IsResumed number point (view_of self.old).texts its (D.view disk.old) (D.view disk.new)) }
-        ensures fault { D.tells → IfErr result (λ e. IsResumeFault number point e (D.view disk.old) (D.view disk.new)) }
-        ensures monotone { (file : FileId) → (D.view disk.old).faults file ≤ (D.view disk.new).faults file }
-        ensures syncs { D.tells → (n : ℕ) → n ≢ number → Unused n (D.view disk.old) (D.view disk.new) }
-        ensures cause { IfErr result (λ e. restart_refusal e ≡ Refusal.DeviceFault → StoreRose (D.view disk.old) (D.view disk.new)) }
-        ensures whole { IfOk result (λ its. its.log.is_broken ≡ false) }
+        ensures reserved { ReservesLog result (view_of self.old) (view_of self.new) }
+        ensures resumed { Resumes D.tells number point (view_of self.old).texts result (D.view disk.old) (D.view disk.new) }
     {
         if self.reserve_log().is_err() {
             return Err(LogFault::NoMem);

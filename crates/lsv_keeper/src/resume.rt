@@ -1,9 +1,8 @@
 //! Logs that are opened and cut, to be gone on with.
 
-ghost use Rattle.std.specs.Prelude.{◌≡◌, ◌≢◌, ◌⊎◌, ◌≤◌, ℕ, List, [], Some, None, OnOk, IfOk, IfErr, IsErrOf, false};
+ghost use Rattle.std.specs.Prelude.{◌≡◌, ◌⊎◌, ℕ, List, [], Some, None, OnOk, IfOk, IfErr, IsErrOf};
 ghost use Rattle.lsv_disk.specs.Throughout.{OnlyReads};
 ghost use Rattle.lsv_disk.specs.View.{HasOwnCause};
-ghost use Rattle.lsv_disk.specs.declared.file.FileId.{FileId};
 ghost use Rattle.lsv_disk.specs.declared.file.Part.{Part};
 ghost use Rattle.lsv_iolog.specs.Faults.{IsOpenFault};
 ghost use Rattle.lsv_iolog.specs.Reading.{IsBehind};
@@ -12,9 +11,8 @@ ghost use Rattle.lsv_iolog.specs.declared.fault.LogFault.{LogFault};
 ghost use Rattle.lsv_mask.specs.Masking.{seen};
 ghost use Rattle.lsv_record.specs.Points.{Stored, cut, first};
 ghost use Rattle.lsv_keeper.specs.Represents.{Masks};
-ghost use Rattle.lsv_keeper.specs.Resuming.{IsResumed, IsResumeFault, IsViewOf, restart_refusal};
-ghost use Rattle.lsv_keeper.specs.Syncing.{Unused};
-ghost use Rattle.lsv_keeper.specs.Causes.{StoreRose};
+ghost use Rattle.lsv_keeper.specs.Calls.{Resumes};
+ghost use Rattle.lsv_keeper.specs.Resuming.{IsViewOf, restart_refusal};
 
 use crate::logs::OpenLog;
 use lsv_base::{Bytes, List, LogNo, Point};
@@ -111,12 +109,7 @@ pub(crate) fn resume_log<D: Disk, H: Search>(
     number: LogNo,
     point: Point,
 ) -> Result<OpenLog, LogFault>
-    ensures resumed { D.tells → IfOk result (λ its. IsResumed number point texts.now its (D.view disk.old) (D.view disk.new)) }
-    ensures fault { D.tells → IfErr result (λ e. IsResumeFault number point e (D.view disk.old) (D.view disk.new)) }
-    ensures monotone { (file : FileId) → (D.view disk.old).faults file ≤ (D.view disk.new).faults file }
-    ensures syncs { D.tells → (n : ℕ) → n ≢ number → Unused n (D.view disk.old) (D.view disk.new) }
-    ensures cause { IfErr result (λ e. restart_refusal e ≡ Refusal.DeviceFault → StoreRose (D.view disk.old) (D.view disk.new)) }
-    ensures whole { IfOk result (λ its. its.log.is_broken ≡ false) }
+    ensures { Resumes D.tells number point texts.now result (D.view disk.old) (D.view disk.new) }
 {
     let mut log = IoLog::open(alloc, disk, number)?;
     if log.is_complete() {

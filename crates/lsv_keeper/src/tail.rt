@@ -3,14 +3,13 @@
 ghost use Rattle.std.specs.Prelude.{◌≡◌, ◌≤◌, ◌*◌, Bool, [], ◌∷◌, length, Some};
 ghost use Rattle.lsv_session.specs.declared.connection.ConnId.{ConnId};
 ghost use Rattle.lsv_machine.specs.Machine.{Machine};
-ghost use Rattle.lsv_keeper.specs.Frames.{LogKeeps, TailKeeps};
+ghost use Rattle.lsv_keeper.specs.Frames.{LogKeeps, LogsKeep, TailKeeps};
 ghost use Rattle.lsv_keeper.specs.Replies.{room_in};
 ghost use Rattle.lsv_keeper.specs.Represents.{Represents};
 ghost use Rattle.lsv_keeper.specs.Tails.{LinesGive, LogGives, LogsGive, RefusedGive, none_waits};
-ghost use Rattle.lsv_keeper.specs.Value.{SameSet, room, un_noted, AreWhole};
+ghost use Rattle.lsv_keeper.specs.Value.{room, un_noted, AreWhole};
 ghost use Rattle.lsv_keeper.specs.Views.{view_of};
-ghost use Rattle.lsv_keeper.specs.Syncing.{SyncsOne, SyncsThese};
-ghost use Rattle.lsv_keeper.specs.Causes.{Does, IsAmong, IsSteady, Says, StoreRose, Waits};
+ghost use Rattle.lsv_keeper.specs.Causes.{IsAmong, IsSteady, Says, StoreRose, Waits};
 ghost use Rattle.std.specs.List.{AllByRecursion};
 
 use crate::Keeper;
@@ -31,8 +30,7 @@ impl<F: LineWriter, H: Search> Keeper<F, H> {
         requires stands { D.tells → (m : Machine) × Represents (view_of self.old) (D.view disk.old) m }
         requires places { length (view_of self.old).noting ≤ room (view_of self.old) }
         requires replies { 2 * length (view_of self.old).noting ≤ room_in out.old }
-        ensures frame { TailKeeps D.tells (length (view_of self.old).noting) (view_of self.old) (view_of self.new) out.old out.new (D.view disk.old) (D.view disk.new) }
-        ensures none { (view_of self.new).noting ≡ [] }
+        ensures frame { TailKeeps D.tells (length (view_of self.old).noting) [] (view_of self.old) (view_of self.new) out.old out.new (D.view disk.old) (D.view disk.new) }
         ensures lines { D.tells → (m : Machine) → Represents (view_of self.old) (D.view disk.old) m
             → LinesGive (view_of self.old) m out.old.items out.new.items (view_of self.new) (D.view disk.old) (D.view disk.new) }
         ensures says { (p : ConnId → Bool) → IsSteady p (view_of self.old) → Says (IsAmong p) (λ k. StoreRose (D.view disk.old) (D.view disk.new)) out.old.items out.new.items }
@@ -52,8 +50,7 @@ impl<F: LineWriter, H: Search> Keeper<F, H> {
         requires stands { D.tells → (m : Machine) × Represents (un_noted (view_of self.old)) (D.view disk.old) m }
         requires places { length (view_of self.old).noting ≤ room (view_of self.old) }
         requires replies { 2 * length (view_of self.old).noting ≤ room_in out.old }
-        ensures frame { TailKeeps D.tells (length (view_of self.old).noting) (un_noted (view_of self.old)) (view_of self.new) out.old out.new (D.view disk.old) (D.view disk.new) }
-        ensures none { (view_of self.new).noting ≡ [] }
+        ensures frame { TailKeeps D.tells (length (view_of self.old).noting) [] (un_noted (view_of self.old)) (view_of self.new) out.old out.new (D.view disk.old) (D.view disk.new) }
         ensures refused { D.tells → (m : Machine) → Represents (un_noted (view_of self.old)) (D.view disk.old) m
             → RefusedGive (view_of self.old).noting (view_of self.old) m out.old.items out.new.items (view_of self.new) (D.view disk.old) (D.view disk.new) }
         ensures says { (p : ConnId → Bool) → AllByRecursion (IsAmong p) (view_of self.old).noting → Says (IsAmong p) (λ k. Unit {0}) out.old.items out.new.items }
@@ -69,8 +66,7 @@ impl<F: LineWriter, H: Search> Keeper<F, H> {
         requires stands { D.tells → (m : Machine) × Represents (view_of self.old) (D.view disk.old) m }
         requires places { 1 ≤ room (view_of self.old) }
         requires replies { 2 ≤ room_in out.old }
-        ensures frame { TailKeeps D.tells 1 (view_of self.old) (view_of self.new) out.old out.new (D.view disk.old) (D.view disk.new) }
-        ensures noting { (view_of self.new).noting ≡ (view_of self.old).noting }
+        ensures frame { TailKeeps D.tells 1 (view_of self.old).noting (view_of self.old) (view_of self.new) out.old out.new (D.view disk.old) (D.view disk.new) }
         ensures refused { D.tells → (m : Machine) → Represents (view_of self.old) (D.view disk.old) m
             → RefusedGive (conn ∷ []) (view_of self.old) m out.old.items out.new.items (view_of self.new) (D.view disk.old) (D.view disk.new) }
         ensures says { Says (λ k. k ≡ conn) (λ k. Unit {0}) out.old.items out.new.items }
@@ -87,13 +83,9 @@ impl<F: LineWriter, H: Search> Keeper<F, H> {
         requires stands { D.tells → (m : Machine) × Represents (view_of self.old) (D.view disk.old) m }
         requires places { length (view_of self.old).waiting ≤ room (view_of self.old) }
         requires replies { 2 * length (view_of self.old).waiting ≤ room_in out.old }
-        ensures set { SameSet (view_of self.old) (view_of self.new) }
-        ensures none { (view_of self.new).waiting ≡ [] }
-        ensures noting { (view_of self.new).noting ≡ (view_of self.old).noting }
+        ensures frame { LogsKeep D.tells (view_of self.old) (view_of self.new) (D.view disk.old) (D.view disk.new) }
         ensures logs { D.tells → (m : Machine) → Represents (view_of self.old) (D.view disk.old) m
             → LogsGive m.waiting (view_of self.old) m out.old.items out.new.items (view_of self.new) (D.view disk.old) (D.view disk.new) }
-        ensures syncs { D.tells → (m : Machine) → Represents (view_of self.old) (D.view disk.old) m → SyncsThese m.waiting (D.view disk.old) (D.view disk.new) }
-        ensures does { Does [] ⊥ ⊥ (view_of self.old) (view_of self.new) (D.view disk.old) (D.view disk.new) }
         ensures says { (p : ConnId → Bool) → IsSteady p (view_of self.old) → AreWhole (view_of self.old).logs → Says (IsAmong p) (λ k. StoreRose (D.view disk.old) (D.view disk.new)) out.old.items out.new.items }
     {
         let waiting = mem::replace(&mut self.waiting, Vec::new(self.alloc));
@@ -108,10 +100,9 @@ impl<F: LineWriter, H: Search> Keeper<F, H> {
         requires none_waits { (view_of self.old).waiting ≡ [] }
         requires places { 1 ≤ room (view_of self.old) }
         requires replies { 2 ≤ room_in out.old }
-        ensures frame { LogKeeps (view_of self.old) (view_of self.new) out.old out.new (D.view disk.old) (D.view disk.new) }
+        ensures frame { LogKeeps D.tells number (view_of self.old) (view_of self.new) out.old out.new (D.view disk.old) (D.view disk.new) }
         ensures log { D.tells → (m : Machine) (k : ConnId) → Represents (view_of self.old) (D.view disk.old) (none_waits m) → m.owner number ≡ Some k
             → LogGives number (view_of self.old) m out.old.items out.new.items (view_of self.new) (D.view disk.old) (D.view disk.new) }
-        ensures syncs { D.tells → (m : Machine) (k : ConnId) → Represents (view_of self.old) (D.view disk.old) (none_waits m) → m.owner number ≡ Some k → SyncsOne number (D.view disk.old) (D.view disk.new) }
         ensures says { (p : ConnId → Bool) → Waits p (view_of self.old) number → AreWhole (view_of self.old).logs → Says (IsAmong p) (λ k. StoreRose (D.view disk.old) (D.view disk.new)) out.old.items out.new.items }
     {
         let Some(conn) = self.table.owner(number) else {

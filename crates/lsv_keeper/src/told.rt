@@ -1,10 +1,10 @@
-ghost use Rattle.std.specs.Prelude.{◌≡◌, ◌≤◌, ◌+◌, ◌⊎◌, false, List, [], ◌∷◌, ◌++◌, map, IfSome};
+ghost use Rattle.std.specs.Prelude.{◌≡◌, ◌≤◌, ◌⊎◌, false, [], ◌∷◌, map, IfSome};
 ghost use Rattle.lsv_request.specs.declared.refusal.Refusal.TheVariants.{OutOfMemory};
 ghost use Rattle.lsv_session.specs.Connections.{refusal_message};
 ghost use Rattle.lsv_session.specs.declared.reply.ReplyBody.TheVariants as body;
-ghost use Rattle.lsv_machine.specs.Answers.{Answer, CommitPoint, refusal, reply_of, say};
+ghost use Rattle.lsv_machine.specs.Answers.{CommitPoint, refusal, reply_of, say};
 ghost use Rattle.lsv_machine.specs.Failures.{WantsMemory};
-ghost use Rattle.lsv_keeper.specs.Replies.{room_in};
+ghost use Rattle.lsv_keeper.specs.Replies.{Puts, PutsAnswers, room_in};
 ghost use Rattle.lsv_keeper.specs.Rows.{IsTold, Tells, told_of};
 
 use lsv_base::{Bytes, LogNo, Point};
@@ -44,8 +44,7 @@ pub(crate) fn told_of(refused: Option<Refusal>) -> Told
 /// Puts a reply at the end, for which there is room.
 fn put(out: &mut Vec<Reply>, reply: Reply)
     requires room { 1 ≤ room_in out.old }
-    ensures items { out.new.items ≡ out.old.items ++ reply ∷ [] }
-    ensures room { room_in out.old ≤ room_in out.new + 1 }
+    ensures { Puts (reply ∷ []) 1 out.old out.new }
 {
     let _ = out.push(reply);
 }
@@ -85,8 +84,7 @@ fn message_of(alloc: Global, why: Refusal) -> Option<ServerMessage>
 /// Puts the replies of a refusal at the end, for which there is room.
 fn put_refusal(alloc: Global, out: &mut Vec<Reply>, conn: ConnId, why: Refusal)
     requires room { 2 ≤ room_in out.old }
-    ensures told { (answers : List Answer) × ((answers ≡ refusal conn why) ⊎ WantsMemory conn answers) × (out.new.items ≡ out.old.items ++ map reply_of answers) }
-    ensures room { room_in out.old ≤ room_in out.new + 2 }
+    ensures { PutsAnswers (λ answers. (answers ≡ refusal conn why) ⊎ WantsMemory conn answers) out.old out.new }
 {
     if let Some(message) = message_of(alloc, why) {
         put(out, say(conn, message));
@@ -99,8 +97,7 @@ fn put_refusal(alloc: Global, out: &mut Vec<Reply>, conn: ConnId, why: Refusal)
 pub(crate) fn put_replies(alloc: Global, out: &mut Vec<Reply>, conn: ConnId, told: Told)
     requires told { IsTold told }
     requires room { 2 ≤ room_in out.old }
-    ensures told { (answers : List Answer) × Tells conn told answers × (out.new.items ≡ out.old.items ++ map reply_of answers) }
-    ensures room { room_in out.old ≤ room_in out.new + 2 }
+    ensures { PutsAnswers (Tells conn told) out.old out.new }
 {
     if let Told::Nothing = told {
         return;
@@ -115,8 +112,7 @@ pub(crate) fn put_replies(alloc: Global, out: &mut Vec<Reply>, conn: ConnId, tol
 fn put_told(alloc: Global, out: &mut Vec<Reply>, conn: ConnId, told: Told)
     requires told { IsTold told }
     requires room { 2 ≤ room_in out.old }
-    ensures told { (answers : List Answer) × Tells conn told answers × (out.new.items ≡ out.old.items ++ map reply_of answers) }
-    ensures room { room_in out.old ≤ room_in out.new + 2 }
+    ensures { PutsAnswers (Tells conn told) out.old out.new }
 {
     match told {
         Told::Nothing => {}
@@ -134,8 +130,7 @@ fn put_told(alloc: Global, out: &mut Vec<Reply>, conn: ConnId, told: Told)
 /// Puts a commit point at the end, for which there is room.
 pub(crate) fn put_point(out: &mut Vec<Reply>, conn: ConnId, point: Point)
     requires room { 1 ≤ room_in out.old }
-    ensures told { out.new.items ≡ out.old.items ++ map reply_of (say conn (CommitPoint point) ∷ []) }
-    ensures room { room_in out.old ≤ room_in out.new + 1 }
+    ensures { Puts (map reply_of (say conn (CommitPoint point) ∷ [])) 1 out.old out.new }
 {
     put(out, say(conn, ServerMessage::CommitPoint(point.spec())));
 }

@@ -1,14 +1,14 @@
 //! A turn: its jobs, one after another, then its event lines, and then its commit points.
 
-ghost use Rattle.std.specs.Prelude.{◌≡◌, ◌≤◌, ◌*◌, ℕ, length, Some, IsSome, OnOk, map};
+ghost use Rattle.std.specs.Prelude.{◌≡◌, ◌≤◌, ◌*◌, ℕ, length, Some, IsSome, OnOk};
 ghost use Rattle.lsv_base.specs.Time.{nanos_of};
 ghost use Rattle.lsv_session.specs.declared.connection.ConnId.{ConnId};
 ghost use Rattle.lsv_machine.specs.Machine.{Machine};
-ghost use Rattle.lsv_keeper.specs.Frames.{JobsKeep};
+ghost use Rattle.lsv_keeper.specs.Calls.{AnswersJobs};
 ghost use Rattle.lsv_keeper.specs.Replies.{room_in};
 ghost use Rattle.lsv_keeper.specs.Represents.{Represents};
 ghost use Rattle.lsv_keeper.specs.Room.{HasRoom, IsRoomier};
-ghost use Rattle.lsv_keeper.specs.Tails.{JobsGive, TurnGives};
+ghost use Rattle.lsv_keeper.specs.Tails.{TurnGives};
 ghost use Rattle.lsv_keeper.specs.Value.{IsResting, SameSet, room, AreWhole};
 ghost use Rattle.lsv_keeper.specs.Views.{view_of};
 ghost use Rattle.lsv_keeper.specs.Syncs.{AnyRestarts, SparesDamaged, SyncedOnce};
@@ -81,9 +81,7 @@ impl<F: LineWriter, H: Search> Keeper<F, H> {
         requires stands { D.tells → (m : Machine) × Represents (view_of self.old) (D.view disk.old) m }
         requires places { length jobs.items ≤ room (view_of self.old) }
         requires replies { 2 * length jobs.items ≤ room_in out.old }
-        ensures frame { JobsKeep D.tells (length jobs.items) (AnyRestarts jobs.items) (map (λ job. job.conn) jobs.items) (view_of self.old) (view_of self.new) out.old out.new (D.view disk.old) (D.view disk.new) }
-        ensures answered { D.tells → (m : Machine) → Represents (view_of self.old) (D.view disk.old) m
-            → JobsGive (view_of self.old) now jobs.items m out.old.items out.new.items (view_of self.new) (D.view disk.old) (D.view disk.new) }
+        ensures done { AnswersJobs D.tells now jobs.items (view_of self.old) (view_of self.new) out.old out.new (D.view disk.old) (D.view disk.new) }
         ensures says { AreWhole (view_of self.old).logs → Says (AnyIsOf jobs.items) (MayAnswerTo (view_of self.old) jobs.items (D.view disk.old) (D.view disk.new)) out.old.items out.new.items }
     {
         for job in jobs {

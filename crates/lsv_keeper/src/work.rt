@@ -1,20 +1,18 @@
 //! Jobs: what a connection brings is judged, worked on and answered.
 
-ghost use Rattle.std.specs.Prelude.{◌≡◌, ◌≤◌, false, Ok, IsSome, [], ◌∷◌};
+ghost use Rattle.std.specs.Prelude.{◌≡◌, ◌≤◌, false, Ok, IsSome};
 ghost use Rattle.lsv_base.specs.Time.{nanos_of};
 ghost use Rattle.lsv_msg.specs.declared.messages.ClientMessage.{ClientMessage};
 ghost use Rattle.lsv_session.specs.declared.job.Body.TheVariants as bodies;
 ghost use Rattle.lsv_machine.specs.Judgement.{judged};
 ghost use Rattle.lsv_machine.specs.Machine.{Machine, is_dead};
-ghost use Rattle.lsv_keeper.specs.Frames.{JobKeeps};
+ghost use Rattle.lsv_keeper.specs.Calls.{AnswersJob};
 ghost use Rattle.lsv_keeper.specs.Jobs.{DoesJob, DoesRequest};
 ghost use Rattle.lsv_keeper.specs.Logs.{IsWindowFit};
 ghost use Rattle.lsv_keeper.specs.Replies.{room_in};
 ghost use Rattle.lsv_keeper.specs.Represents.{Represents};
-ghost use Rattle.lsv_keeper.specs.Tails.{JobGives};
 ghost use Rattle.lsv_keeper.specs.Value.{AreWhole, room, sessions_of};
 ghost use Rattle.lsv_keeper.specs.Views.{view_of};
-ghost use Rattle.lsv_keeper.specs.Syncs.{Restarts};
 ghost use Rattle.lsv_keeper.specs.Causes.{BringsLine, MayAnswer, Says};
 
 use crate::Keeper;
@@ -42,9 +40,7 @@ impl<F: LineWriter, H: Search> Keeper<F, H> {
         requires stands { D.tells → (m : Machine) × Represents (view_of self.old) (D.view disk.old) m }
         requires places { 1 ≤ room (view_of self.old) }
         requires replies { 2 ≤ room_in out.old }
-        ensures frame { JobKeeps D.tells (Restarts job.body) (job.conn ∷ []) (view_of self.old) (view_of self.new) out.old out.new (D.view disk.old) (D.view disk.new) }
-        ensures answered { D.tells → (m : Machine) → Represents (view_of self.old) (D.view disk.old) m
-            → JobGives (view_of self.old) now job m out.old.items out.new.items (view_of self.new) (D.view disk.old) (D.view disk.new) }
+        ensures done { AnswersJob D.tells now job (view_of self.old) (view_of self.new) out.old out.new (D.view disk.old) (D.view disk.new) }
         ensures says { AreWhole (view_of self.old).logs → Says (λ k. k ≡ job.conn) (λ k. MayAnswer (BringsLine (view_of self.old).log_exit job.body) (view_of self.old) (D.view disk.old) (D.view disk.new)) out.old.items out.new.items }
     {
         let Job { conn, body } = job;

@@ -1,5 +1,5 @@
 -- The line is added to an event log that is open, or to one that was opened again.
-use Rattle.std.proofs.Common.{◌≡◌, ◌≤◌, ◌<◌, ◌+◌, ◌^◌, ℕ, List, true, false, length, None, Result, Err, sym, ◌∙◌, ap, subst, inl, inr}
+use Rattle.std.proofs.Common.{◌≡◌, ◌≤◌, ◌<◌, ◌+◌, ◌^◌, ℕ, List, true, false, length, None, Result, Err, sym, ◌∙◌, ap, subst, inl, inr, rules}
 use Rattle.lsv_bundle.specs.declared.fault.BundleFault.{BundleFault}
 use Rattle.lsv_bundle.specs.declared.fault.BundleFault.TheVariants as faults
 use Rattle.lsv_bundle.specs.declared.shape.Shape.TheVariants as shapes
@@ -70,10 +70,18 @@ returns-in_default-clause-added g c told v m lane here at =
     (subst (λ (x : EventLogView). IsAdded c.args.line.now x c.add.new.self) (sym here) c.in_default.ensures.value) c.in_default.ensures.sound
     (subst (λ (x : EventLogView). text_length x + length c.args.line.now ≤ 2 ^ 40) (sym here) c.in_default.ensures.room.1)
 
-pub returns-in_default-clause-beside : goal.returns-in_default-clause-beside
-returns-in_default-clause-beside g c told v m lane here at =
-    let disk = c.args.disk.now in
-    beside_same v c.args.lane (g.D.Disk.view disk) m lane (record { reads_itself = g.met.D.Disk.reads_itself told disk; is_now = g.met.D.Disk.is_now told disk; only_now = g.met.D.Disk.only_now told disk }) at
+pub returns-in_default-clause-frame : goal.returns-in_default-clause-frame
+returns-in_default-clause-frame g c = record {
+  beside = λ told v m lane here at.
+      let disk = c.args.disk.now in
+      beside_same v c.args.lane (g.D.Disk.view disk) m lane (record { reads_itself = g.met.D.Disk.reads_itself told disk; is_now = g.met.D.Disk.is_now told disk; only_now = g.met.D.Disk.only_now told disk }) at;
+  syncs = search rules;
+  does = record {
+    monotone = still (g.D.Disk.view c.args.disk.now);
+    failed = λ broken. let q : true ≡ false = sym broken ∙ added_whole c.args.events.now c.add.new.self c.args.line.now c.in_default.ensures.value c.in_default.ensures.room.0 in absurd (cc);
+    cause = λ e. absurd (cc);
+  };
+}
 
 pub returns-then-not-failed_before-clause-refused : goal.returns-then-not-failed_before-clause-refused
 returns-then-not-failed_before-clause-refused g c told v m lane here at =
@@ -85,10 +93,25 @@ returns-then-not-failed_before-clause-refused g c told v m lane here at =
       same_events v c.add.new.self disk m (c.in-Err.ensures.refused ∙ sym here) at,
     )
 
-pub returns-then-not-failed_before-clause-beside : goal.returns-then-not-failed_before-clause-beside
-returns-then-not-failed_before-clause-beside g c told v m lane here at =
-    let disk = c.args.disk.now in
-    beside_same v c.args.lane (g.D.Disk.view disk) m lane (record { reads_itself = g.met.D.Disk.reads_itself told disk; is_now = g.met.D.Disk.is_now told disk; only_now = g.met.D.Disk.only_now told disk }) at
+pub returns-then-not-failed_before-clause-frame : goal.returns-then-not-failed_before-clause-frame
+returns-then-not-failed_before-clause-frame g c = record {
+  beside = λ told v m lane here at.
+      let disk = c.args.disk.now in
+      beside_same v c.args.lane (g.D.Disk.view disk) m lane (record { reads_itself = g.met.D.Disk.reads_itself told disk; is_now = g.met.D.Disk.is_now told disk; only_now = g.met.D.Disk.only_now told disk }) at;
+  syncs = search rules;
+  does = record {
+    monotone = still (g.D.Disk.view c.args.disk.now);
+    failed = λ broken. inl (ap is_broken (sym c.in-Err.ensures.refused) ∙ broken);
+    cause = λ e.
+        let before : failed_before c.in-Err.fault ≡ false = cc in
+        let told_it : line_refusal c.in-Err.fault ≡ DeviceFault = sym c.line_refusal.ensures ∙ (let f : c.line_refusal.result ≡ DeviceFault = cc in f) in
+        absurd (elim c.in-Err.ensures.fault [
+          | inl broken ↦ (let q : failed_before faults.Broken ≡ false = ap failed_before (sym broken) ∙ before in cc)
+          | inr (inl full) ↦ (let q : line_refusal (faults.Full parts.Lines) ≡ DeviceFault = ap line_refusal (sym full) ∙ told_it in cc)
+          | inr (inr none) ↦ (let q : line_refusal faults.NoMem ≡ DeviceFault = ap line_refusal (sym none) ∙ told_it in cc)
+        ]);
+  };
+}
 
 pub returns-in-Err-open-clause-refused : goal.returns-in-Err-open-clause-refused
 returns-in-Err-open-clause-refused g c told v m lane here at =
@@ -104,13 +127,21 @@ returns-in-Err-open-clause-refused g c told v m lane here at =
           (not_reopened v (IsAsBefore v.lane old) old new m at broken (opens_for v c.args.lane old new lane (c.in-Err-open.ensures.any_moment told)) (reads_for v c.args.lane old new lane (c.in-Err-open.ensures.reads told))),
     )
 
-pub returns-in-Err-open-clause-beside : goal.returns-in-Err-open-clause-beside
-returns-in-Err-open-clause-beside g c told v m lane here at =
-    let a = c.args.disk.now in
-    let b = c.open.new.disk in
-    beside_for v c.args.lane (g.D.Disk.view a) (g.D.Disk.view b) m lane (record { reads_itself = g.met.D.Disk.reads_itself told a; is_now = g.met.D.Disk.is_now told a; only_now = g.met.D.Disk.only_now told a })
-    (record { reads_itself = g.met.D.Disk.reads_itself told b; is_now = g.met.D.Disk.is_now told b; only_now = g.met.D.Disk.only_now told b }) at
-    (c.open.ensures.any_moment told) (c.open.ensures.reads told) (c.open.ensures.reads_back told) c.open.ensures.cause.monotone
+pub returns-in-Err-open-clause-frame : goal.returns-in-Err-open-clause-frame
+returns-in-Err-open-clause-frame g c = record {
+  beside = λ told v m lane here at.
+      let a = c.args.disk.now in
+      let b = c.open.new.disk in
+      beside_for v c.args.lane (g.D.Disk.view a) (g.D.Disk.view b) m lane (record { reads_itself = g.met.D.Disk.reads_itself told a; is_now = g.met.D.Disk.is_now told a; only_now = g.met.D.Disk.only_now told a })
+      (record { reads_itself = g.met.D.Disk.reads_itself told b; is_now = g.met.D.Disk.is_now told b; only_now = g.met.D.Disk.only_now told b }) at
+      (c.open.ensures.any_moment told) (c.open.ensures.reads told) (c.open.ensures.reads_back told) c.open.ensures.cause.monotone;
+  syncs = λ told.
+      lines_opened c.args.lane 6 9 (g.D.Disk.view c.args.disk.now) (g.D.Disk.view c.open.new.disk) (c.open.ensures.calls told);
+  does =
+      let before : failed_before c.in-Err.fault ≡ true = cc in
+      let broken : is_broken c.args.events.now ≡ true = c.in-Err.ensures.broken.0 (in_err c.in-Err.fault faults.Broken (failed_is c.in-Err.fault before)) in
+      record { monotone = c.open.ensures.cause.monotone; failed = λ is. inl broken; cause = λ e. inl broken };
+}
 
 pub returns-in-Ok-add-clause-whole : goal.returns-in-Ok-add-clause-whole
 returns-in-Ok-add-clause-whole g c = added_whole c.in-Ok.opened c.add-2.new.self c.args.line.now c.in-Ok-add.ensures.value c.in-Ok-add.ensures.room.0
@@ -127,13 +158,22 @@ returns-in-Ok-add-clause-added g c told v m lane here at =
     (opens_for v c.args.lane old new lane (c.open.ensures.any_moment told)) (reads_for v c.args.lane old new lane (c.open.ensures.reads told)))
     c.in-Ok-add.ensures.room.0 c.in-Ok-add.ensures.value c.in-Ok-add.ensures.sound c.in-Ok-add.ensures.room.1
 
-pub returns-in-Ok-add-clause-beside : goal.returns-in-Ok-add-clause-beside
-returns-in-Ok-add-clause-beside g c told v m lane here at =
-    let a = c.args.disk.now in
-    let b = c.open.new.disk in
-    beside_for v c.args.lane (g.D.Disk.view a) (g.D.Disk.view b) m lane (record { reads_itself = g.met.D.Disk.reads_itself told a; is_now = g.met.D.Disk.is_now told a; only_now = g.met.D.Disk.only_now told a })
-    (record { reads_itself = g.met.D.Disk.reads_itself told b; is_now = g.met.D.Disk.is_now told b; only_now = g.met.D.Disk.only_now told b }) at
-    (c.open.ensures.any_moment told) (c.open.ensures.reads told) (c.open.ensures.reads_back told) c.open.ensures.cause.monotone
+pub returns-in-Ok-add-clause-frame : goal.returns-in-Ok-add-clause-frame
+returns-in-Ok-add-clause-frame g c = record {
+  beside = λ told v m lane here at.
+      let a = c.args.disk.now in
+      let b = c.open.new.disk in
+      beside_for v c.args.lane (g.D.Disk.view a) (g.D.Disk.view b) m lane (record { reads_itself = g.met.D.Disk.reads_itself told a; is_now = g.met.D.Disk.is_now told a; only_now = g.met.D.Disk.only_now told a })
+      (record { reads_itself = g.met.D.Disk.reads_itself told b; is_now = g.met.D.Disk.is_now told b; only_now = g.met.D.Disk.only_now told b }) at
+      (c.open.ensures.any_moment told) (c.open.ensures.reads told) (c.open.ensures.reads_back told) c.open.ensures.cause.monotone;
+  syncs = λ told.
+      lines_opened c.args.lane 6 9 (g.D.Disk.view c.args.disk.now) (g.D.Disk.view c.open.new.disk) (c.open.ensures.calls told);
+  does = record {
+    monotone = c.open.ensures.cause.monotone;
+    failed = λ broken. let q : true ≡ false = sym broken ∙ added_whole c.in-Ok.opened c.add-2.new.self c.args.line.now c.in-Ok-add.ensures.value c.in-Ok-add.ensures.room.0 in absurd (cc);
+    cause = λ e. absurd (cc);
+  };
+}
 
 pub returns-in-Err-add-clause-refused : goal.returns-in-Err-add-clause-refused
 returns-in-Err-add-clause-refused g c told v m lane here at =
@@ -152,61 +192,18 @@ returns-in-Err-add-clause-refused g c told v m lane here at =
       same_events (record v { events = c.in-Ok.opened }) c.add-2.new.self new m c.in-Err-add.ensures.refused at1,
     )
 
-pub returns-in-Err-add-clause-beside : goal.returns-in-Err-add-clause-beside
-returns-in-Err-add-clause-beside g c told v m lane here at =
-    let a = c.args.disk.now in
-    let b = c.open.new.disk in
-    beside_for v c.args.lane (g.D.Disk.view a) (g.D.Disk.view b) m lane (record { reads_itself = g.met.D.Disk.reads_itself told a; is_now = g.met.D.Disk.is_now told a; only_now = g.met.D.Disk.only_now told a })
-    (record { reads_itself = g.met.D.Disk.reads_itself told b; is_now = g.met.D.Disk.is_now told b; only_now = g.met.D.Disk.only_now told b }) at
-    (c.open.ensures.any_moment told) (c.open.ensures.reads told) (c.open.ensures.reads_back told) c.open.ensures.cause.monotone
-
-pub returns-in-Err-open-clause-syncs : goal.returns-in-Err-open-clause-syncs
-returns-in-Err-open-clause-syncs g c told = lines_opened c.args.lane 6 9 (g.D.Disk.view c.args.disk.now) (g.D.Disk.view c.open.new.disk) (c.open.ensures.calls told)
-
-pub returns-in-Ok-add-clause-syncs : goal.returns-in-Ok-add-clause-syncs
-returns-in-Ok-add-clause-syncs g c told = lines_opened c.args.lane 6 9 (g.D.Disk.view c.args.disk.now) (g.D.Disk.view c.open.new.disk) (c.open.ensures.calls told)
-
-pub returns-in-Err-add-clause-syncs : goal.returns-in-Err-add-clause-syncs
-returns-in-Err-add-clause-syncs g c told = lines_opened c.args.lane 6 9 (g.D.Disk.view c.args.disk.now) (g.D.Disk.view c.open.new.disk) (c.open.ensures.calls told)
-
--- ---- Over every disk
-
-pub returns-in_default-clause-does : goal.returns-in_default-clause-does
-returns-in_default-clause-does g c = record {
-  monotone = still (g.D.Disk.view c.args.disk.now);
-  failed = λ broken. let q : true ≡ false = sym broken ∙ added_whole c.args.events.now c.add.new.self c.args.line.now c.in_default.ensures.value c.in_default.ensures.room.0 in absurd (cc);
-  cause = λ e. absurd (cc);
+pub returns-in-Err-add-clause-frame : goal.returns-in-Err-add-clause-frame
+returns-in-Err-add-clause-frame g c = record {
+  beside = λ told v m lane here at.
+      let a = c.args.disk.now in
+      let b = c.open.new.disk in
+      beside_for v c.args.lane (g.D.Disk.view a) (g.D.Disk.view b) m lane (record { reads_itself = g.met.D.Disk.reads_itself told a; is_now = g.met.D.Disk.is_now told a; only_now = g.met.D.Disk.only_now told a })
+      (record { reads_itself = g.met.D.Disk.reads_itself told b; is_now = g.met.D.Disk.is_now told b; only_now = g.met.D.Disk.only_now told b }) at
+      (c.open.ensures.any_moment told) (c.open.ensures.reads told) (c.open.ensures.reads_back told) c.open.ensures.cause.monotone;
+  syncs = λ told.
+      lines_opened c.args.lane 6 9 (g.D.Disk.view c.args.disk.now) (g.D.Disk.view c.open.new.disk) (c.open.ensures.calls told);
+  does =
+      let before : failed_before c.in-Err.fault ≡ true = cc in
+      let broken : is_broken c.args.events.now ≡ true = c.in-Err.ensures.broken.0 (in_err c.in-Err.fault faults.Broken (failed_is c.in-Err.fault before)) in
+      record { monotone = c.open.ensures.cause.monotone; failed = λ is. inl broken; cause = λ e. inl broken };
 }
-
-pub returns-then-not-failed_before-clause-does : goal.returns-then-not-failed_before-clause-does
-returns-then-not-failed_before-clause-does g c = record {
-  monotone = still (g.D.Disk.view c.args.disk.now);
-  failed = λ broken. inl (ap is_broken (sym c.in-Err.ensures.refused) ∙ broken);
-  cause = λ e.
-      let before : failed_before c.in-Err.fault ≡ false = cc in
-      let told_it : line_refusal c.in-Err.fault ≡ DeviceFault = sym c.line_refusal.ensures ∙ (let f : c.line_refusal.result ≡ DeviceFault = cc in f) in
-      absurd (elim c.in-Err.ensures.fault [
-        | inl broken ↦ (let q : failed_before faults.Broken ≡ false = ap failed_before (sym broken) ∙ before in cc)
-        | inr (inl full) ↦ (let q : line_refusal (faults.Full parts.Lines) ≡ DeviceFault = ap line_refusal (sym full) ∙ told_it in cc)
-        | inr (inr none) ↦ (let q : line_refusal faults.NoMem ≡ DeviceFault = ap line_refusal (sym none) ∙ told_it in cc)
-      ]);
-}
-
-pub returns-in-Err-open-clause-does : goal.returns-in-Err-open-clause-does
-returns-in-Err-open-clause-does g c =
-    let before : failed_before c.in-Err.fault ≡ true = cc in
-    let broken : is_broken c.args.events.now ≡ true = c.in-Err.ensures.broken.0 (in_err c.in-Err.fault faults.Broken (failed_is c.in-Err.fault before)) in
-    record { monotone = c.open.ensures.cause.monotone; failed = λ is. inl broken; cause = λ e. inl broken }
-
-pub returns-in-Ok-add-clause-does : goal.returns-in-Ok-add-clause-does
-returns-in-Ok-add-clause-does g c = record {
-  monotone = c.open.ensures.cause.monotone;
-  failed = λ broken. let q : true ≡ false = sym broken ∙ added_whole c.in-Ok.opened c.add-2.new.self c.args.line.now c.in-Ok-add.ensures.value c.in-Ok-add.ensures.room.0 in absurd (cc);
-  cause = λ e. absurd (cc);
-}
-
-pub returns-in-Err-add-clause-does : goal.returns-in-Err-add-clause-does
-returns-in-Err-add-clause-does g c =
-    let before : failed_before c.in-Err.fault ≡ true = cc in
-    let broken : is_broken c.args.events.now ≡ true = c.in-Err.ensures.broken.0 (in_err c.in-Err.fault faults.Broken (failed_is c.in-Err.fault before)) in
-    record { monotone = c.open.ensures.cause.monotone; failed = λ is. inl broken; cause = λ e. inl broken }

@@ -13,16 +13,19 @@ returns-in-Ok-clause-opened g c told = record {
 }
 
 pub returns-in-Ok-clause-store : goal.returns-in-Ok-clause-store
-returns-in-Ok-clause-store g c told lanes =
-    let old = c.args.disk.now in
-    let new = c.open.new.disk in
-    events_store c.args.lane lanes (g.D.Disk.view old) (g.D.Disk.view new)
-    (record { reads_itself = g.met.D.Disk.reads_itself told old; is_now = g.met.D.Disk.is_now told old; only_now = g.met.D.Disk.only_now told old })
-    (record { reads_itself = g.met.D.Disk.reads_itself told new; is_now = g.met.D.Disk.is_now told new; only_now = g.met.D.Disk.only_now told new })
-    (c.open.ensures.any_moment told) (c.open.ensures.reads told) (c.open.ensures.reads_back told) c.open.ensures.cause.monotone
-
-pub returns-in-Ok-clause-run : goal.returns-in-Ok-clause-run
-returns-in-Ok-clause-run g c told = some_run _ _ (g.D.Disk.view c.args.disk.now) (g.D.Disk.view c.open.new.disk) (c.open.ensures.any_moment told)
+returns-in-Ok-clause-store g c lanes = record {
+  store = λ told.
+      let old = c.args.disk.now in
+      let new = c.open.new.disk in
+      events_store c.args.lane lanes (g.D.Disk.view old) (g.D.Disk.view new)
+      (record { reads_itself = g.met.D.Disk.reads_itself told old; is_now = g.met.D.Disk.is_now told old; only_now = g.met.D.Disk.only_now told old })
+      (record { reads_itself = g.met.D.Disk.reads_itself told new; is_now = g.met.D.Disk.is_now told new; only_now = g.met.D.Disk.only_now told new })
+      (c.open.ensures.any_moment told) (c.open.ensures.reads told) (c.open.ensures.reads_back told) c.open.ensures.cause.monotone;
+  run = λ told.
+      some_run _ _ (g.D.Disk.view c.args.disk.now) (g.D.Disk.view c.open.new.disk) (c.open.ensures.any_moment told);
+  unused = λ told.
+      lines_opened c.args.lane 6 9 (g.D.Disk.view c.args.disk.now) (g.D.Disk.view c.open.new.disk) (c.open.ensures.calls told);
+}
 
 pub returns-in-Ok-clause-cause : goal.returns-in-Ok-clause-cause
 returns-in-Ok-clause-cause g c o = record { monotone = c.open.ensures.cause.monotone; risen = λ e. absurd (cc e) }
@@ -33,16 +36,19 @@ returns-in-Err-clause-fault g c told =
     (λ part e. c.in-Err.ensures.damaged told part (in_err c.in-Err.fault (bundle_faults.Damaged part) e))
 
 pub returns-in-Err-clause-store : goal.returns-in-Err-clause-store
-returns-in-Err-clause-store g c told lanes =
-    let old = c.args.disk.now in
-    let new = c.open.new.disk in
-    events_store c.args.lane lanes (g.D.Disk.view old) (g.D.Disk.view new)
-    (record { reads_itself = g.met.D.Disk.reads_itself told old; is_now = g.met.D.Disk.is_now told old; only_now = g.met.D.Disk.only_now told old })
-    (record { reads_itself = g.met.D.Disk.reads_itself told new; is_now = g.met.D.Disk.is_now told new; only_now = g.met.D.Disk.only_now told new })
-    (c.open.ensures.any_moment told) (c.open.ensures.reads told) (c.open.ensures.reads_back told) c.open.ensures.cause.monotone
-
-pub returns-in-Err-clause-run : goal.returns-in-Err-clause-run
-returns-in-Err-clause-run g c told = some_run _ _ (g.D.Disk.view c.args.disk.now) (g.D.Disk.view c.open.new.disk) (c.open.ensures.any_moment told)
+returns-in-Err-clause-store g c lanes = record {
+  store = λ told.
+      let old = c.args.disk.now in
+      let new = c.open.new.disk in
+      events_store c.args.lane lanes (g.D.Disk.view old) (g.D.Disk.view new)
+      (record { reads_itself = g.met.D.Disk.reads_itself told old; is_now = g.met.D.Disk.is_now told old; only_now = g.met.D.Disk.only_now told old })
+      (record { reads_itself = g.met.D.Disk.reads_itself told new; is_now = g.met.D.Disk.is_now told new; only_now = g.met.D.Disk.only_now told new })
+      (c.open.ensures.any_moment told) (c.open.ensures.reads told) (c.open.ensures.reads_back told) c.open.ensures.cause.monotone;
+  run = λ told.
+      some_run _ _ (g.D.Disk.view c.args.disk.now) (g.D.Disk.view c.open.new.disk) (c.open.ensures.any_moment told);
+  unused = λ told.
+      lines_opened c.args.lane 6 9 (g.D.Disk.view c.args.disk.now) (g.D.Disk.view c.open.new.disk) (c.open.ensures.calls told);
+}
 
 pub returns-in-Err-clause-cause : goal.returns-in-Err-clause-cause
 returns-in-Err-clause-cause g c o = record {
@@ -53,9 +59,3 @@ returns-in-Err-clause-cause g c o = record {
 
 pub returns-in-Ok-clause-sound : goal.returns-in-Ok-clause-sound
 returns-in-Ok-clause-sound g c = c.in-Ok.ensures.value.whole
-
-pub returns-in-Ok-clause-unused : goal.returns-in-Ok-clause-unused
-returns-in-Ok-clause-unused g c told = lines_opened c.args.lane 6 9 (g.D.Disk.view c.args.disk.now) (g.D.Disk.view c.open.new.disk) (c.open.ensures.calls told)
-
-pub returns-in-Err-clause-unused : goal.returns-in-Err-clause-unused
-returns-in-Err-clause-unused g c told = lines_opened c.args.lane 6 9 (g.D.Disk.view c.args.disk.now) (g.D.Disk.view c.open.new.disk) (c.open.ensures.calls told)

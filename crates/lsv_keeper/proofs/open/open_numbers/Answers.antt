@@ -14,16 +14,19 @@ returns-in-Ok-clause-opened g c told = record {
 }
 
 pub returns-in-Ok-clause-store : goal.returns-in-Ok-clause-store
-returns-in-Ok-clause-store g c told =
-    let old = c.args.disk.now in
-    let new = c.open.new.disk in
-    numbers_store c.args.lane c.args.lanes (g.D.Disk.view old) (g.D.Disk.view new)
-    (record { reads_itself = g.met.D.Disk.reads_itself told old; is_now = g.met.D.Disk.is_now told old; only_now = g.met.D.Disk.only_now told old })
-    (record { reads_itself = g.met.D.Disk.reads_itself told new; is_now = g.met.D.Disk.is_now told new; only_now = g.met.D.Disk.only_now told new })
-    (number_moments c.args.lane c.args.lanes (g.D.Disk.view old) (g.D.Disk.view new) (c.open.ensures.any_moment told) (c.open.ensures.kept told)) c.open.ensures.cause.monotone
-
-pub returns-in-Ok-clause-run : goal.returns-in-Ok-clause-run
-returns-in-Ok-clause-run g c told = some_run _ _ (g.D.Disk.view c.args.disk.now) (g.D.Disk.view c.open.new.disk) (c.open.ensures.any_moment told)
+returns-in-Ok-clause-store g c = record {
+  store = λ told.
+      let old = c.args.disk.now in
+      let new = c.open.new.disk in
+      numbers_store c.args.lane c.args.lanes (g.D.Disk.view old) (g.D.Disk.view new)
+      (record { reads_itself = g.met.D.Disk.reads_itself told old; is_now = g.met.D.Disk.is_now told old; only_now = g.met.D.Disk.only_now told old })
+      (record { reads_itself = g.met.D.Disk.reads_itself told new; is_now = g.met.D.Disk.is_now told new; only_now = g.met.D.Disk.only_now told new })
+      (number_moments c.args.lane c.args.lanes (g.D.Disk.view old) (g.D.Disk.view new) (c.open.ensures.any_moment told) (c.open.ensures.kept told)) c.open.ensures.cause.monotone;
+  run = λ told.
+      some_run _ _ (g.D.Disk.view c.args.disk.now) (g.D.Disk.view c.open.new.disk) (c.open.ensures.any_moment told);
+  unused = λ told.
+      draw_unused c.args.lane 6 9 (g.D.Disk.view c.args.disk.now) (g.D.Disk.view c.open.new.disk) (c.open.ensures.calls told);
+}
 
 pub returns-in-Ok-clause-kept : goal.returns-in-Ok-clause-kept
 returns-in-Ok-clause-kept g c told some = numbers_entry c.args.lane (g.D.Disk.view c.args.disk.now) (g.D.Disk.view c.open.new.disk) (c.open.ensures.kept told some) (c.open.ensures.same told some)
@@ -36,16 +39,19 @@ returns-in-Err-clause-fault g c told =
     numbers_faults c.args.lane c.args.lanes (g.D.Disk.view c.args.disk.now).reads c.in-Err.fault c.number_fault.result c.number_fault.ensures (c.in-Err.ensures.refused told)
 
 pub returns-in-Err-clause-store : goal.returns-in-Err-clause-store
-returns-in-Err-clause-store g c told =
-    let old = c.args.disk.now in
-    let new = c.open.new.disk in
-    numbers_store c.args.lane c.args.lanes (g.D.Disk.view old) (g.D.Disk.view new)
-    (record { reads_itself = g.met.D.Disk.reads_itself told old; is_now = g.met.D.Disk.is_now told old; only_now = g.met.D.Disk.only_now told old })
-    (record { reads_itself = g.met.D.Disk.reads_itself told new; is_now = g.met.D.Disk.is_now told new; only_now = g.met.D.Disk.only_now told new })
-    (number_moments c.args.lane c.args.lanes (g.D.Disk.view old) (g.D.Disk.view new) (c.open.ensures.any_moment told) (c.open.ensures.kept told)) c.open.ensures.cause.monotone
-
-pub returns-in-Err-clause-run : goal.returns-in-Err-clause-run
-returns-in-Err-clause-run g c told = some_run _ _ (g.D.Disk.view c.args.disk.now) (g.D.Disk.view c.open.new.disk) (c.open.ensures.any_moment told)
+returns-in-Err-clause-store g c = record {
+  store = λ told.
+      let old = c.args.disk.now in
+      let new = c.open.new.disk in
+      numbers_store c.args.lane c.args.lanes (g.D.Disk.view old) (g.D.Disk.view new)
+      (record { reads_itself = g.met.D.Disk.reads_itself told old; is_now = g.met.D.Disk.is_now told old; only_now = g.met.D.Disk.only_now told old })
+      (record { reads_itself = g.met.D.Disk.reads_itself told new; is_now = g.met.D.Disk.is_now told new; only_now = g.met.D.Disk.only_now told new })
+      (number_moments c.args.lane c.args.lanes (g.D.Disk.view old) (g.D.Disk.view new) (c.open.ensures.any_moment told) (c.open.ensures.kept told)) c.open.ensures.cause.monotone;
+  run = λ told.
+      some_run _ _ (g.D.Disk.view c.args.disk.now) (g.D.Disk.view c.open.new.disk) (c.open.ensures.any_moment told);
+  unused = λ told.
+      draw_unused c.args.lane 6 9 (g.D.Disk.view c.args.disk.now) (g.D.Disk.view c.open.new.disk) (c.open.ensures.calls told);
+}
 
 pub returns-in-Err-clause-kept : goal.returns-in-Err-clause-kept
 returns-in-Err-clause-kept g c told some = numbers_entry c.args.lane (g.D.Disk.view c.args.disk.now) (g.D.Disk.view c.open.new.disk) (c.open.ensures.kept told some) (c.open.ensures.same told some)
@@ -59,9 +65,3 @@ returns-in-Err-clause-cause g c o = record {
 
 pub returns-in-Ok-clause-sound : goal.returns-in-Ok-clause-sound
 returns-in-Ok-clause-sound g c = c.in-Ok.ensures.whole
-
-pub returns-in-Ok-clause-unused : goal.returns-in-Ok-clause-unused
-returns-in-Ok-clause-unused g c told = draw_unused c.args.lane 6 9 (g.D.Disk.view c.args.disk.now) (g.D.Disk.view c.open.new.disk) (c.open.ensures.calls told)
-
-pub returns-in-Err-clause-unused : goal.returns-in-Err-clause-unused
-returns-in-Err-clause-unused g c told = draw_unused c.args.lane 6 9 (g.D.Disk.view c.args.disk.now) (g.D.Disk.view c.open.new.disk) (c.open.ensures.calls told)

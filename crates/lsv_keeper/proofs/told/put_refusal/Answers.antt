@@ -1,4 +1,4 @@
-use Rattle.std.proofs.Common.{◌≡◌, ◌∷◌, ◌++◌, false, List, [], refl, ◌∙◌, ap, inl, inr, append_assoc, ◌⊎◌}
+use Rattle.std.proofs.Common.{◌≡◌, ◌∷◌, ◌++◌, false, List, [], refl, ◌∙◌, ap, inl, inr, append_assoc, ◌⊎◌, rules}
 use Rattle.std.specs.Prelude.{map}
 use Rattle.std.specs.Global.{Vec}
 use Rattle.lsv_msg.specs.declared.messages.ServerMessage.{ServerMessage}
@@ -34,9 +34,11 @@ refused_with k why message first last said one two (inr is) a b f l = (
       ∙ ap (λ (r : Reply). said ++ (record { conn = k; body = body.Say (refusal_message OutOfMemory); last = false }) ∷ r ∷ []) l,
 )
 
-pub returns-clause-told : goal.returns-clause-told
-returns-clause-told c = elim c.match-message_of.branch [
-  | in-Some w ↦ refused_with c.args.conn c.args.why w.in-Some.message w.say.result c.shut.result c.args.out.now.items w.put.new.out.items c.put-2.new.out.items w.in-Some.ensures w.put.ensures.items
-      (c.put-2.ensures.items ∙ ap (λ (v : Vec Reply). v.items ++ c.shut.result ∷ []) w.out-is) w.say.ensures c.shut.ensures
-  | in_default w ↦ (say c.args.conn Shut ∷ [], inr (inr refl), c.put-2.ensures.items ∙ ap (λ (v : Vec Reply). v.items ++ c.shut.result ∷ []) w.out-is ∙ ap (λ (r : Reply). c.args.out.now.items ++ r ∷ []) c.shut.ensures)
-]
+pub returns : goal.returns
+returns c =
+    let t : (answers : List Answer) × ((answers ≡ refusal c.args.conn c.args.why) ⊎ WantsMemory c.args.conn answers) × (c.put-2.new.out.items ≡ c.args.out.now.items ++ map reply_of answers) = elim c.match-message_of.branch [
+      | in-Some w ↦ refused_with c.args.conn c.args.why w.in-Some.message w.say.result c.shut.result c.args.out.now.items w.put.new.out.items c.put-2.new.out.items w.in-Some.ensures w.put.ensures.items
+          (c.put-2.ensures.items ∙ ap (λ (v : Vec Reply). v.items ++ c.shut.result ∷ []) w.out-is) w.say.ensures c.shut.ensures
+      | in_default w ↦ (say c.args.conn Shut ∷ [], inr (inr refl), c.put-2.ensures.items ∙ ap (λ (v : Vec Reply). v.items ++ c.shut.result ∷ []) w.out-is ∙ ap (λ (r : Reply). c.args.out.now.items ++ r ∷ []) c.shut.ensures)
+    ] in
+    record { answers = t.0; says = t.1; items = t.2; room = search rules }

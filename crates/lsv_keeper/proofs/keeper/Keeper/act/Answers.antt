@@ -35,16 +35,18 @@ returns-in-Bad g c = record {
       let old = g.D.Disk.view c.args.disk.now in
       let new = g.D.Disk.view c.refuse.new.disk in
       record {
-        keeps = c.refuse.ensures.frame.keeps;
+        keeps = (c.refuse.ensures.done c.args.now).frame.keeps;
         told = subst IsTold (sym c.refuse.ensures.told) tt;
         row = λ told m job at conn is.
             let living : is_dead (m.states c.args.conn) ≡ false = ap is_dead (at.states c.args.conn) ∙ c.requires.alive in
-            c.refuse.ensures.row told m job c.args.now at conn living
-            (ap (λ (why : Refusal). is_look (refusal c.args.conn why)) c.fault_refusal.ensures ∙ fault_fair c.in-Bad.fault c.args.conn)
-            (λ n. bytes_refused (settings_of v) c.args.now job c.in-Bad.fault m c.args.conn conn (is ∙ c.in-Bad.is) living n ∙ ap (λ (why : Refusal). work.refused c.args.conn why m) (sym c.fault_refusal.ensures));
-        syncs = λ told m at. of_none (Restarts c.args.body) v v' old new (c.refuse.ensures.frame.syncs told m at);
-        spared = λ told m at. spares_none v v' old new m at (c.refuse.ensures.frame.syncs told m at);
-        does = quiet_told (λ e. fault_not c.in-Bad.fault (sym c.fault_refusal.ensures ∙ refused_is c.fault_refusal.result (sym c.refuse.ensures.told ∙ e))) c.refuse.ensures.frame.does;
+            (c.refuse.ensures.done c.args.now).row told m job at conn (
+              living,
+              (ap (λ (why : Refusal). is_look (refusal c.args.conn why)) c.fault_refusal.ensures ∙ fault_fair c.in-Bad.fault c.args.conn),
+              (λ n. bytes_refused (settings_of v) c.args.now job c.in-Bad.fault m c.args.conn conn (is ∙ c.in-Bad.is) living n ∙ ap (λ (why : Refusal). work.refused c.args.conn why m) (sym c.fault_refusal.ensures)),
+            );
+        syncs = λ told m at. of_none (Restarts c.args.body) v v' old new ((c.refuse.ensures.done c.args.now).frame.syncs told m at);
+        spared = λ told m at. spares_none v v' old new m at ((c.refuse.ensures.done c.args.now).frame.syncs told m at);
+        does = quiet_told (λ e. fault_not c.in-Bad.fault (sym c.fault_refusal.ensures ∙ refused_is c.fault_refusal.result (sym c.refuse.ensures.told ∙ e))) (c.refuse.ensures.done c.args.now).frame.does;
       };
 }
 
@@ -56,11 +58,11 @@ returns-in-Gone g c = record {
       let old = g.D.Disk.view c.args.disk.now in
       let new = g.D.Disk.view c.farewell.new.disk in
       record {
-        keeps = c.farewell.ensures.frame.keeps;
+        keeps = (c.farewell.ensures.done c.args.now).frame.keeps;
         told = subst IsTold (sym c.farewell.ensures.told) tt;
-        row = λ told m job at conn is. c.farewell.ensures.row told m job c.args.now at conn (is ∙ c.in-Gone.is) (ap is_dead (at.states c.args.conn) ∙ c.requires.alive);
-        syncs = λ told m at. of_none (Restarts c.args.body) v v' old new (c.farewell.ensures.frame.syncs told m at);
-        spared = λ told m at. spares_none v v' old new m at (c.farewell.ensures.frame.syncs told m at);
-        does = quiet_told (λ e. let f : told_variants.Farewell ≡ told_variants.Refused DeviceFault = sym c.farewell.ensures.told ∙ e in cc) c.farewell.ensures.frame.does;
+        row = λ told m job at conn is. (c.farewell.ensures.done c.args.now).row told m job at conn (is ∙ c.in-Gone.is, ap is_dead (at.states c.args.conn) ∙ c.requires.alive);
+        syncs = λ told m at. of_none (Restarts c.args.body) v v' old new ((c.farewell.ensures.done c.args.now).frame.syncs told m at);
+        spared = λ told m at. spares_none v v' old new m at ((c.farewell.ensures.done c.args.now).frame.syncs told m at);
+        does = quiet_told (λ e. let f : told_variants.Farewell ≡ told_variants.Refused DeviceFault = sym c.farewell.ensures.told ∙ e in cc) (c.farewell.ensures.done c.args.now).frame.does;
       };
 }

@@ -47,9 +47,9 @@ pub returns-in_err-stage_line-clause-frame : goal.returns-in_err-stage_line-clau
 returns-in_err-stage_line-clause-frame g c = record {
   keeps = let long = ap length c.reserve.ensures.items in record { lane = refl; lanes = refl; log_exit = refl; kind = refl; texts = refl; room_is = omega arith; owed = omega (arith, long) };
   same = record { table = refl; logs = refl; numbers = refl; waiting = refl };
-  beside = λ told m at. c.stage_line.ensures.beside told (view_of c.args.self.now) m refl refl at;
-  syncs = c.stage_line.ensures.syncs;
-  does = line_does (λ e. same_err c.from_residual.result c.in_err-stage_line.field-0.0 DeviceFault c.from_residual.ensures.1 e) (record { table = refl; logs = refl; numbers = refl; waiting = refl }) c.in_err-stage_line.ensures.does (inl c.reserve.ensures.items);
+  beside = λ told m at. c.stage_line.ensures.frame.beside told (view_of c.args.self.now) m refl refl at;
+  syncs = c.stage_line.ensures.frame.syncs;
+  does = line_does (λ e. same_err c.from_residual.result c.in_err-stage_line.field-0.0 DeviceFault c.from_residual.ensures.1 e) (record { table = refl; logs = refl; numbers = refl; waiting = refl }) c.in_err-stage_line.ensures.frame.does (inl c.reserve.ensures.items);
 }
 
 pub returns-in_err-stage_line-clause-refused : goal.returns-in_err-stage_line-clause-refused
@@ -73,12 +73,12 @@ returns-clause-frame g c = record {
       let most = note_longer c.args.conn c.args.self.now.noting.items in
       record { lane = refl; lanes = refl; log_exit = refl; kind = refl; texts = refl; room_is = omega arith; owed = omega (arith, long, most) };
   same = record { table = refl; logs = refl; numbers = refl; waiting = refl };
-  beside = λ told m at. c.stage_line.ensures.beside told (view_of c.args.self.now) m refl refl at;
-  syncs = c.stage_line.ensures.syncs;
+  beside = λ told m at. c.stage_line.ensures.frame.beside told (view_of c.args.self.now) m refl refl at;
+  syncs = c.stage_line.ensures.frame.syncs;
   does =
       let room : vec_len c.reserve.new.self + 1 ≤ vec_capacity c.reserve.new.self = on_ok _ c.reserve.result (ok_of c.reserve.result c.is_err.result c.if-is_err.false c.is_err.ensures.negation) c.reserve.ensures.ok in
       let noted : c.note.new.conns.items ≡ note c.args.conn c.reserve.new.self.items = on_ok _ c.note.result (c.note.ensures.room (omega arith)) c.note.ensures.noted in
-      line_does (λ e. absurd (cc)) (record { table = refl; logs = refl; numbers = refl; waiting = refl }) c.in_ok-stage_line.ensures.does (inr (noted ∙ ap (note c.args.conn) c.reserve.ensures.items));
+      line_does (λ e. absurd (cc)) (record { table = refl; logs = refl; numbers = refl; waiting = refl }) c.in_ok-stage_line.ensures.frame.does (inr (noted ∙ ap (note c.args.conn) c.reserve.ensures.items));
 }
 
 pub returns-clause-added : goal.returns-clause-added

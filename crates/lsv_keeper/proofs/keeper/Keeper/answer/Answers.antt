@@ -19,11 +19,11 @@ returns-in-Dead g c = record {
       let old = g.D.Disk.view c.args.disk.now in
       let new = g.D.Disk.view c.drop_job.new.disk in
       record {
-        keeps = c.drop_job.ensures.frame.keeps;
+        keeps = (c.drop_job.ensures.done c.args.now).frame.keeps;
         told = subst IsTold (sym c.drop_job.ensures.told) tt;
-        row = λ told m job at conn is. c.drop_job.ensures.row told m job c.args.now at conn is (ap is_dead (at.states c.args.conn ∙ sym c.state-state.ensures ∙ c.in-Dead.is));
-        syncs = λ told m at. of_none (Restarts c.args.body) v v' old new (c.drop_job.ensures.frame.syncs told m at);
-        spared = λ told m at. spares_none v v' old new m at (c.drop_job.ensures.frame.syncs told m at);
-        does = quiet_told (λ e. let f : told_variants.Nothing ≡ told_variants.Refused DeviceFault = sym c.drop_job.ensures.told ∙ e in cc) c.drop_job.ensures.frame.does;
+        row = λ told m job at conn is. (c.drop_job.ensures.done c.args.now).row told m job at conn (is, ap is_dead (at.states c.args.conn ∙ sym c.state-state.ensures ∙ c.in-Dead.is));
+        syncs = λ told m at. of_none (Restarts c.args.body) v v' old new ((c.drop_job.ensures.done c.args.now).frame.syncs told m at);
+        spared = λ told m at. spares_none v v' old new m at ((c.drop_job.ensures.done c.args.now).frame.syncs told m at);
+        does = quiet_told (λ e. let f : told_variants.Nothing ≡ told_variants.Refused DeviceFault = sym c.drop_job.ensures.told ∙ e in cc) (c.drop_job.ensures.done c.args.now).frame.does;
       };
 }

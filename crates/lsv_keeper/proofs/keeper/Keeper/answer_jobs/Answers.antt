@@ -46,16 +46,16 @@ loop-job-preserved g c =
       counted = let was = c.loop-job.invariant.counted in let gone = c.in-Some.ensures.steps.1 in let short = ap length steps in omega arith;
       done = answering_on g.D.Disk.tells c.args.now c.loop-job.yielded c.in-Some.job (view_of c.args.self.now) (view_of c.loop-job.self) (view_of c.answer_job.new.self)
           (room_in c.args.out.now) (room_in c.loop-job.out) (room_in c.answer_job.new.out) c.args.out.now.items c.loop-job.out.items c.answer_job.new.out.items
-          (g.D.Disk.view c.args.disk.now) (g.D.Disk.view c.loop-job.disk) (g.D.Disk.view c.answer_job.new.disk) c.loop-job.invariant.done c.answer_job.ensures.frame.keeps c.answer_job.ensures.frame.room c.answer_job.ensures.answered;
+          (g.D.Disk.view c.args.disk.now) (g.D.Disk.view c.loop-job.disk) (g.D.Disk.view c.answer_job.new.disk) c.loop-job.invariant.done c.answer_job.ensures.done.frame.keeps c.answer_job.ensures.done.frame.room c.answer_job.ensures.done.answered;
       synced = λ told m at.
           let d = c.loop-job.invariant.done.jobs told m at in
           jobs_on c.loop-job.yielded c.in-Some.job (view_of c.args.self.now) (view_of c.loop-job.self) (view_of c.answer_job.new.self) (g.D.Disk.view c.args.disk.now) (g.D.Disk.view c.loop-job.disk) (g.D.Disk.view c.answer_job.new.disk)
-          (c.loop-job.invariant.synced told m at) (c.answer_job.ensures.frame.syncs told d.after d.represents);
+          (c.loop-job.invariant.synced told m at) (c.answer_job.ensures.done.frame.syncs told d.after d.represents);
       spared = λ told m at n damaged.
           let d = c.loop-job.invariant.done.jobs told m at in
           spares_on n (g.D.Disk.view c.args.disk.now) (g.D.Disk.view c.loop-job.disk) (g.D.Disk.view c.answer_job.new.disk) (c.loop-job.invariant.spared told m at n damaged)
-          (c.answer_job.ensures.frame.spared told d.after d.represents n (acts_damaged n (settings_of (view_of c.args.self.now)) d.going.acts m d.after at.sound d.going.run damaged));
-      kept = does_last c.loop-job.yielded c.in-Some.job (view_of c.args.self.now) (view_of c.loop-job.self) (view_of c.answer_job.new.self) (g.D.Disk.view c.args.disk.now) (g.D.Disk.view c.loop-job.disk) (g.D.Disk.view c.answer_job.new.disk) c.loop-job.invariant.kept c.answer_job.ensures.frame.does;
+          (c.answer_job.ensures.done.frame.spared told d.after d.represents n (acts_damaged n (settings_of (view_of c.args.self.now)) d.going.acts m d.after at.sound d.going.run damaged));
+      kept = does_last c.loop-job.yielded c.in-Some.job (view_of c.args.self.now) (view_of c.loop-job.self) (view_of c.answer_job.new.self) (g.D.Disk.view c.args.disk.now) (g.D.Disk.view c.loop-job.disk) (g.D.Disk.view c.answer_job.new.disk) c.loop-job.invariant.kept c.answer_job.ensures.done.frame.does;
       says = λ all.
           let v = view_of c.args.self.now in
           let w = view_of c.loop-job.self in
@@ -69,36 +69,36 @@ loop-job-preserved g c =
           says_then more (MayAnswerTo v (done ++ job ∷ []) old new) c.args.out.now.items c.loop-job.out.items c.answer_job.new.out.items
           (says_as (AnyIsOf done) more (MayAnswerTo v done old mid) (MayAnswerTo v (done ++ job ∷ []) old new) c.args.out.now.items c.loop-job.out.items (any_before done job)
           (λ k is may. answer_as (AnyBringsLine v.log_exit done k) (AnyBringsLine v.log_exit (done ++ job ∷ []) k) v old new (brings_before v.log_exit done job k)
-          (answer_first (AnyBringsLine v.log_exit done k) v old mid new may c.answer_job.ensures.frame.does.monotone)) (c.loop-job.invariant.says all))
+          (answer_first (AnyBringsLine v.log_exit done k) v old mid new may c.answer_job.ensures.done.frame.does.monotone)) (c.loop-job.invariant.says all))
           (says_as (λ k. k ≡ job.conn) more (λ k. MayAnswer (BringsLine w.log_exit job.body) w mid new) (MayAnswerTo v (done ++ job ∷ []) old new) c.loop-job.out.items c.answer_job.new.out.items (any_last done job)
           (λ k is may. answer_as (BringsLine w.log_exit job.body) (AnyBringsLine v.log_exit (done ++ job ∷ []) k) v old new
           (λ brings. brings_last v.log_exit done job k (sym is) (subst (λ (b : Bool). BringsLine b job.body) log_exit brings))
-          (answer_second (BringsLine w.log_exit job.body) v w old mid new c.loop-job.invariant.kept.monotone c.answer_job.ensures.frame.does.monotone c.loop-job.invariant.kept.failed may)) (c.answer_job.ensures.says (c.loop-job.invariant.kept.whole all)));
+          (answer_second (BringsLine w.log_exit job.body) v w old mid new c.loop-job.invariant.kept.monotone c.answer_job.ensures.done.frame.does.monotone c.loop-job.invariant.kept.failed may)) (c.answer_job.ensures.says (c.loop-job.invariant.kept.whole all)));
     }
 
-pub returns-clause-answered : goal.returns-clause-answered
-returns-clause-answered g c told m at =
-    let empty : into_iter_items c.loop-job.job-iterator ≡ [] = nothing_left (into_iter_items c.loop-job.job-iterator) (sym c.loop-job.invariant.counted ∙ c.in-None.ensures.steps.0) in
-    let all : c.loop-job.yielded ≡ c.args.jobs.items = sym (append-nil c.loop-job.yielded) ∙ (ap (λ (x : List Job). c.loop-job.yielded ++ x) (sym empty) ∙ c.loop-job.invariant.items) in
-    subst (λ (jobs : List Job). JobsGive (view_of c.args.self.now) c.args.now jobs m c.args.out.now.items c.loop-job.out.items (view_of c.loop-job.self) (g.D.Disk.view c.args.disk.now) (g.D.Disk.view c.loop-job.disk)) all
-    (c.loop-job.invariant.done.jobs told m at)
-
-pub returns-clause-frame : goal.returns-clause-frame
-returns-clause-frame g c =
-    let empty : into_iter_items c.loop-job.job-iterator ≡ [] = nothing_left (into_iter_items c.loop-job.job-iterator) (sym c.loop-job.invariant.counted ∙ c.in-None.ensures.steps.0) in
-    let all : c.loop-job.yielded ≡ c.args.jobs.items = sym (append-nil c.loop-job.yielded) ∙ (ap (λ (x : List Job). c.loop-job.yielded ++ x) (sym empty) ∙ c.loop-job.invariant.items) in
-    let long = ap length all in
-    let d = c.loop-job.invariant.done in
-    record {
-      set = d.set;
-      owes = let o = d.owed_is in omega (arith, o, long);
-      places = let o = d.places in omega (arith, o, long);
-      replies = let o = d.replies in omega (arith, o, long);
-      syncs = λ told m at.
-          subst (λ (jobs : List Job). Syncs (AnyRestarts jobs) (view_of c.args.self.now) (view_of c.loop-job.self) (g.D.Disk.view c.args.disk.now) (g.D.Disk.view c.loop-job.disk)) all (c.loop-job.invariant.synced told m at);
-      spared = c.loop-job.invariant.spared;
-      does = subst (λ (jobs : List Job). Does (map (λ job. job.conn) jobs) ⊥ ⊥ (view_of c.args.self.now) (view_of c.loop-job.self) (g.D.Disk.view c.args.disk.now) (g.D.Disk.view c.loop-job.disk)) all c.loop-job.invariant.kept;
-    }
+pub returns-clause-done : goal.returns-clause-done
+returns-clause-done g c = record {
+  frame =
+      let empty : into_iter_items c.loop-job.job-iterator ≡ [] = nothing_left (into_iter_items c.loop-job.job-iterator) (sym c.loop-job.invariant.counted ∙ c.in-None.ensures.steps.0) in
+      let all : c.loop-job.yielded ≡ c.args.jobs.items = sym (append-nil c.loop-job.yielded) ∙ (ap (λ (x : List Job). c.loop-job.yielded ++ x) (sym empty) ∙ c.loop-job.invariant.items) in
+      let long = ap length all in
+      let d = c.loop-job.invariant.done in
+      record {
+        set = d.set;
+        owes = let o = d.owed_is in omega (arith, o, long);
+        places = let o = d.places in omega (arith, o, long);
+        replies = let o = d.replies in omega (arith, o, long);
+        syncs = λ told m at.
+            subst (λ (jobs : List Job). Syncs (AnyRestarts jobs) (view_of c.args.self.now) (view_of c.loop-job.self) (g.D.Disk.view c.args.disk.now) (g.D.Disk.view c.loop-job.disk)) all (c.loop-job.invariant.synced told m at);
+        spared = c.loop-job.invariant.spared;
+        does = subst (λ (jobs : List Job). Does (map (λ job. job.conn) jobs) ⊥ ⊥ (view_of c.args.self.now) (view_of c.loop-job.self) (g.D.Disk.view c.args.disk.now) (g.D.Disk.view c.loop-job.disk)) all c.loop-job.invariant.kept;
+      };
+  answered = λ told m at.
+      let empty : into_iter_items c.loop-job.job-iterator ≡ [] = nothing_left (into_iter_items c.loop-job.job-iterator) (sym c.loop-job.invariant.counted ∙ c.in-None.ensures.steps.0) in
+      let all : c.loop-job.yielded ≡ c.args.jobs.items = sym (append-nil c.loop-job.yielded) ∙ (ap (λ (x : List Job). c.loop-job.yielded ++ x) (sym empty) ∙ c.loop-job.invariant.items) in
+      subst (λ (jobs : List Job). JobsGive (view_of c.args.self.now) c.args.now jobs m c.args.out.now.items c.loop-job.out.items (view_of c.loop-job.self) (g.D.Disk.view c.args.disk.now) (g.D.Disk.view c.loop-job.disk)) all
+      (c.loop-job.invariant.done.jobs told m at);
+}
 
 -- ---- Over every disk
 

@@ -1,12 +1,12 @@
 -- A number is drawn; or none is, since they are spent or the number file failed.
-use Rattle.std.proofs.Common.{refl, ◌<◌, sym, subst, arith, ◌≡◌, ◌≢◌, ◌⊎◌, inl, inr, ◌∙◌}
+use Rattle.std.proofs.Common.{refl, ◌<◌, sym, subst, arith, ◌≡◌, inl, inr, ◌∙◌}
 use Rattle.lsv_disk.specs.declared.file.Owner.TheVariants as owners
 use Rattle.lsv_request.specs.declared.refusal.Refusal.{Refusal}
 use Rattle.lsv_seq.specs.Drawn.{IsNumbersFile}
 use Rattle.lsv_seq.specs.Value.{lane_of, last_of}
 use Rattle.lsv_seq.specs.declared.fault.DrawFault.TheVariants as faults
 use Rattle.lsv_seq.proofs.Laws.{numbers_owner}
-use Rattle.lsv_keeper.specs.Accepting.{DrawsNone, draw_refusal}
+use Rattle.lsv_keeper.specs.Accepting.{DrawsNone}
 use Rattle.lsv_keeper.specs.Value.{KeeperView}
 use Rattle.lsv_keeper.specs.Views.{view_of}
 use Rattle.lsv_keeper.proofs.Counting.{owner_rose}

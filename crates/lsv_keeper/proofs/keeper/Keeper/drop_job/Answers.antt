@@ -24,48 +24,49 @@ enter_state-requires-clause-stands g c told = let (m, at) = c.requires.stands to
   forget_represents (view_of c.args.self.now) (g.D.Disk.view c.args.disk.now) m c.args.conn c.forget.new.conns.items c.forget.ensures at,
 )
 
-pub returns-clause-frame : goal.returns-clause-frame
-returns-clause-frame g c = record {
-  keeps = elim c.match-body.branch [
-    | in-Gone w ↦ subst (λ s. Keeps (view_of c.args.self.now) (view_of s)) (sym w.self-is)
-        (keeps_forget (view_of c.args.self.now) (view_of w.enter_state.new.self) c.args.conn w.forget.new.conns.items w.forget.ensures w.enter_state.ensures.frame.keeps)
-    | in_default w ↦ subst (λ s. Keeps (view_of c.args.self.now) (view_of s)) (sym w.self-is) (keeps_same (view_of c.args.self.now))
-  ];
-  syncs = λ told m at.
+pub returns-clause-done : goal.returns-clause-done
+returns-clause-done g c now = record {
+  frame = record {
+    keeps = elim c.match-body.branch [
+      | in-Gone w ↦ subst (λ s. Keeps (view_of c.args.self.now) (view_of s)) (sym w.self-is)
+          (keeps_forget (view_of c.args.self.now) (view_of w.enter_state.new.self) c.args.conn w.forget.new.conns.items w.forget.ensures w.enter_state.ensures.frame.keeps)
+      | in_default w ↦ subst (λ s. Keeps (view_of c.args.self.now) (view_of s)) (sym w.self-is) (keeps_same (view_of c.args.self.now))
+    ];
+    syncs = λ told m at.
+        let old : DiskView = g.D.Disk.view c.args.disk.now in
+        let v : KeeperView = view_of c.args.self.now in
+        elim c.match-body.branch [
+          | in-Gone w ↦ subst (λ s. Syncs NoLog v (view_of s) old (g.D.Disk.view c.match-body.disk)) (sym w.self-is)
+              (subst (λ d. Syncs NoLog v (view_of w.enter_state.new.self) old (g.D.Disk.view d)) (sym w.disk-is)
+              (noted_else NoLog v (view_of w.enter_state.new.self) w.forget.new.conns.items old (g.D.Disk.view w.enter_state.new.disk)
+              (w.enter_state.ensures.frame.syncs told (record m { noting = without_conn c.args.conn m.noting }) (forget_represents v old m c.args.conn w.forget.new.conns.items w.forget.ensures at))))
+          | in_default w ↦ subst (λ s. Syncs NoLog v (view_of s) old (g.D.Disk.view c.match-body.disk)) (sym w.self-is)
+              (subst (λ d. Syncs NoLog v v old (g.D.Disk.view d)) (sym w.disk-is) (nothing NoLog v v old refl refl))
+        ];
+    does =
+        let old : DiskView = (g.D.Disk.view c.args.disk.now) in
+        let v : KeeperView = (view_of c.args.self.now) in
+        elim c.match-body.branch [
+          | in-Gone w ↦ subst (λ s. Does [] ⊥ ⊥ v (view_of s) old (g.D.Disk.view c.match-body.disk)) (sym w.self-is)
+              (subst (λ d. Does [] ⊥ ⊥ v (view_of w.enter_state.new.self) old (g.D.Disk.view d)) (sym w.disk-is) (forgotten_then c.args.conn w.forget.new.conns.items w.forget.ensures w.enter_state.ensures.frame.does))
+          | in_default w ↦ subst (λ s. Does [] ⊥ ⊥ v (view_of s) old (g.D.Disk.view c.match-body.disk)) (sym w.self-is)
+              (subst (λ d. Does [] ⊥ ⊥ v v old (g.D.Disk.view d)) (sym w.disk-is) (does_none (λ none. none)))
+        ];
+  };
+  told = tt;
+  row = λ told m job at is (body, dead).
       let old : DiskView = g.D.Disk.view c.args.disk.now in
+      let laws : Laws old = record { reads_itself = g.met.D.Disk.reads_itself told c.args.disk.now; is_now = g.met.D.Disk.is_now told c.args.disk.now; only_now = g.met.D.Disk.only_now told c.args.disk.now } in
       let v : KeeperView = view_of c.args.self.now in
+      let mid : Machine = record m { noting = without_conn c.args.conn m.noting } in
+      let dead' : is_dead (m.states job.conn) ≡ true = subst (λ (k : ConnId). is_dead (m.states k) ≡ true) (sym is) dead in
       elim c.match-body.branch [
-        | in-Gone w ↦ subst (λ s. Syncs NoLog v (view_of s) old (g.D.Disk.view c.match-body.disk)) (sym w.self-is)
-            (subst (λ d. Syncs NoLog v (view_of w.enter_state.new.self) old (g.D.Disk.view d)) (sym w.disk-is)
-            (noted_else NoLog v (view_of w.enter_state.new.self) w.forget.new.conns.items old (g.D.Disk.view w.enter_state.new.disk)
-            (w.enter_state.ensures.frame.syncs told (record m { noting = without_conn c.args.conn m.noting }) (forget_represents v old m c.args.conn w.forget.new.conns.items w.forget.ensures at))))
-        | in_default w ↦ subst (λ s. Syncs NoLog v (view_of s) old (g.D.Disk.view c.match-body.disk)) (sym w.self-is)
-            (subst (λ d. Syncs NoLog v v old (g.D.Disk.view d)) (sym w.disk-is) (nothing NoLog v v old refl refl))
-      ];
-  does =
-      let old : DiskView = (g.D.Disk.view c.args.disk.now) in
-      let v : KeeperView = (view_of c.args.self.now) in
-      elim c.match-body.branch [
-        | in-Gone w ↦ subst (λ s. Does [] ⊥ ⊥ v (view_of s) old (g.D.Disk.view c.match-body.disk)) (sym w.self-is)
-            (subst (λ d. Does [] ⊥ ⊥ v (view_of w.enter_state.new.self) old (g.D.Disk.view d)) (sym w.disk-is) (forgotten_then c.args.conn w.forget.new.conns.items w.forget.ensures w.enter_state.ensures.frame.does))
-        | in_default w ↦ subst (λ s. Does [] ⊥ ⊥ v (view_of s) old (g.D.Disk.view c.match-body.disk)) (sym w.self-is)
-            (subst (λ d. Does [] ⊥ ⊥ v v old (g.D.Disk.view d)) (sym w.disk-is) (does_none (λ none. none)))
+        | in-Gone w ↦ subst (λ s. RowGives v now job Nothing m (view_of s) old (g.D.Disk.view c.match-body.disk)) (sym w.self-is)
+            (subst (λ d. RowGives v now job Nothing m (view_of w.enter_state.new.self) old (g.D.Disk.view d)) (sym w.disk-is)
+            (forgotten_row v (view_of w.enter_state.new.self) w.forget.new.conns.items now job m old (g.D.Disk.view w.enter_state.new.disk) laws dead' (body ∙ w.in-Gone.is)
+            (subst (λ (k : ConnId). Left k Fresh (record v { noting = w.forget.new.conns.items }) (record m { noting = without_conn k m.noting }) (view_of w.enter_state.new.self) old (g.D.Disk.view w.enter_state.new.disk)) (sym is)
+            (w.enter_state.ensures.left told mid (forget_represents v old m c.args.conn w.forget.new.conns.items w.forget.ensures at)))))
+        | in_default w ↦ subst (λ s. RowGives v now job Nothing m (view_of s) old (g.D.Disk.view c.match-body.disk)) (sym w.self-is)
+            (subst (λ d. RowGives v now job Nothing m v old (g.D.Disk.view d)) (sym w.disk-is) (ignored_row v now job m old laws at dead' (λ gone. w.in_default.not-Gone (sym body ∙ gone))))
       ];
 }
-
-pub returns-clause-row : goal.returns-clause-row
-returns-clause-row g c told m job now at is body dead =
-    let old : DiskView = g.D.Disk.view c.args.disk.now in
-    let laws : Laws old = record { reads_itself = g.met.D.Disk.reads_itself told c.args.disk.now; is_now = g.met.D.Disk.is_now told c.args.disk.now; only_now = g.met.D.Disk.only_now told c.args.disk.now } in
-    let v : KeeperView = view_of c.args.self.now in
-    let mid : Machine = record m { noting = without_conn c.args.conn m.noting } in
-    let dead' : is_dead (m.states job.conn) ≡ true = subst (λ (k : ConnId). is_dead (m.states k) ≡ true) (sym is) dead in
-    elim c.match-body.branch [
-      | in-Gone w ↦ subst (λ s. RowGives v now job Nothing m (view_of s) old (g.D.Disk.view c.match-body.disk)) (sym w.self-is)
-          (subst (λ d. RowGives v now job Nothing m (view_of w.enter_state.new.self) old (g.D.Disk.view d)) (sym w.disk-is)
-          (forgotten_row v (view_of w.enter_state.new.self) w.forget.new.conns.items now job m old (g.D.Disk.view w.enter_state.new.disk) laws dead' (body ∙ w.in-Gone.is)
-          (subst (λ (k : ConnId). Left k Fresh (record v { noting = w.forget.new.conns.items }) (record m { noting = without_conn k m.noting }) (view_of w.enter_state.new.self) old (g.D.Disk.view w.enter_state.new.disk)) (sym is)
-          (w.enter_state.ensures.left told mid (forget_represents v old m c.args.conn w.forget.new.conns.items w.forget.ensures at)))))
-      | in_default w ↦ subst (λ s. RowGives v now job Nothing m (view_of s) old (g.D.Disk.view c.match-body.disk)) (sym w.self-is)
-          (subst (λ d. RowGives v now job Nothing m v old (g.D.Disk.view d)) (sym w.disk-is) (ignored_row v now job m old laws at dead' (λ gone. w.in_default.not-Gone (sym body ∙ gone))))
-    ]

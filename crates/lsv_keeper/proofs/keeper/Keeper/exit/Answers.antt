@@ -26,19 +26,7 @@ end_session-requires g c = record {
 
 pub returns-in-Some : goal.returns-in-Some
 returns-in-Some g c = record {
-  done =
-      let v = view_of c.args.self.now in
-      let v' = view_of c.end_log.new.self in
-      let old = g.D.Disk.view c.args.disk.now in
-      let new = g.D.Disk.view c.end_log.new.disk in
-      record {
-        keeps = c.end_log.ensures.keeps;
-        told = c.end_log.ensures.told;
-        row = λ told m job at is asks. c.end_log.ensures.row told m job at is (ap log_of (at.states c.args.conn ∙ sym c.requires.state) ∙ sym c.log_of.ensures ∙ c.in-Some.is) asks;
-        syncs = λ told m at. of_none (GoesOnWith (request.Exit c.args.exit)) v v' old new (c.end_log.ensures.syncs told m at (ap log_of (at.states c.args.conn ∙ sym c.requires.state) ∙ sym c.log_of.ensures ∙ c.in-Some.is));
-        spared = λ told m at. spares_none v v' old new m at (c.end_log.ensures.syncs told m at (ap log_of (at.states c.args.conn ∙ sym c.requires.state) ∙ sym c.log_of.ensures ∙ c.in-Some.is));
-        does = c.end_log.ensures.does (ap log_of (sym c.requires.state) ∙ sym c.log_of.ensures ∙ c.in-Some.is);
-      };
+  done = c.end_log.ensures.done (ap log_of (sym c.requires.state) ∙ sym c.log_of.ensures ∙ c.in-Some.is);
 }
 
 pub returns-in-None : goal.returns-in-None
@@ -51,7 +39,7 @@ returns-in-None g c = record {
       record {
         keeps = c.end_session.ensures.frame.keeps;
         told = c.end_session.ensures.told;
-        row = λ told m job at is asks. c.end_session.ensures.row told m job at is (ap log_of (at.states c.args.conn ∙ sym c.requires.state) ∙ sym c.log_of.ensures ∙ c.in-None.is) asks;
+        row = λ told m job at is asks. c.end_session.ensures.row told m job at is (ap log_of (at.states c.args.conn ∙ sym c.requires.state) ∙ sym c.log_of.ensures ∙ c.in-None.is, asks);
         syncs = λ told m at. of_none (GoesOnWith (request.Exit c.args.exit)) v v' old new (c.end_session.ensures.frame.syncs told m at);
         spared = λ told m at. spares_none v v' old new m at (c.end_session.ensures.frame.syncs told m at);
         does = c.end_session.ensures.frame.does;

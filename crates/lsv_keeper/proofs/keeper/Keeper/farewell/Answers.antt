@@ -25,25 +25,26 @@ enter_state-requires g c = record {
   room = let x = room_fresh ((sessions_of (view_of c.args.self.now)).states c.args.conn) in omega arith;
 }
 
-pub returns-clause-frame : goal.returns-clause-frame
-returns-clause-frame g c = record {
-  keeps = keeps_forget (view_of c.args.self.now) (view_of c.enter_state.new.self) c.args.conn c.forget.new.conns.items c.forget.ensures c.enter_state.ensures.frame.keeps;
-  syncs = λ told m at.
-      let v : KeeperView = view_of c.args.self.now in
+pub returns-clause-done : goal.returns-clause-done
+returns-clause-done g c now = record {
+  frame = record {
+    keeps = keeps_forget (view_of c.args.self.now) (view_of c.enter_state.new.self) c.args.conn c.forget.new.conns.items c.forget.ensures c.enter_state.ensures.frame.keeps;
+    syncs = λ told m at.
+        let v : KeeperView = view_of c.args.self.now in
+        let old : DiskView = g.D.Disk.view c.args.disk.now in
+        noted_else NoLog v (view_of c.enter_state.new.self) c.forget.new.conns.items old (g.D.Disk.view c.enter_state.new.disk)
+        (c.enter_state.ensures.frame.syncs told (record m { noting = without_conn c.args.conn m.noting }) (forget_represents v old m c.args.conn c.forget.new.conns.items c.forget.ensures at));
+    does = forgotten_then c.args.conn c.forget.new.conns.items c.forget.ensures c.enter_state.ensures.frame.does;
+  };
+  told = tt;
+  row = λ told m job at is (gone, alive).
       let old : DiskView = g.D.Disk.view c.args.disk.now in
-      noted_else NoLog v (view_of c.enter_state.new.self) c.forget.new.conns.items old (g.D.Disk.view c.enter_state.new.disk)
-      (c.enter_state.ensures.frame.syncs told (record m { noting = without_conn c.args.conn m.noting }) (forget_represents v old m c.args.conn c.forget.new.conns.items c.forget.ensures at));
-  does = forgotten_then c.args.conn c.forget.new.conns.items c.forget.ensures c.enter_state.ensures.frame.does;
+      let new : DiskView = g.D.Disk.view c.enter_state.new.disk in
+      let laws : Laws old = record { reads_itself = g.met.D.Disk.reads_itself told c.args.disk.now; is_now = g.met.D.Disk.is_now told c.args.disk.now; only_now = g.met.D.Disk.only_now told c.args.disk.now } in
+      let v : KeeperView = view_of c.args.self.now in
+      let mid : Machine = record m { noting = without_conn c.args.conn m.noting } in
+      farewell_row v (view_of c.enter_state.new.self) c.forget.new.conns.items now job m old new laws at
+      (subst (λ (k : ConnId). is_dead (m.states k) ≡ false) (sym is) alive) gone
+      (subst (λ (k : ConnId). Left k Fresh (record v { noting = c.forget.new.conns.items }) (record m { noting = without_conn k m.noting }) (view_of c.enter_state.new.self) old new) (sym is)
+      (c.enter_state.ensures.left told mid (forget_represents v old m c.args.conn c.forget.new.conns.items c.forget.ensures at)));
 }
-
-pub returns-clause-row : goal.returns-clause-row
-returns-clause-row g c told m job now at is gone alive =
-    let old : DiskView = g.D.Disk.view c.args.disk.now in
-    let new : DiskView = g.D.Disk.view c.enter_state.new.disk in
-    let laws : Laws old = record { reads_itself = g.met.D.Disk.reads_itself told c.args.disk.now; is_now = g.met.D.Disk.is_now told c.args.disk.now; only_now = g.met.D.Disk.only_now told c.args.disk.now } in
-    let v : KeeperView = view_of c.args.self.now in
-    let mid : Machine = record m { noting = without_conn c.args.conn m.noting } in
-    farewell_row v (view_of c.enter_state.new.self) c.forget.new.conns.items now job m old new laws at
-    (subst (λ (k : ConnId). is_dead (m.states k) ≡ false) (sym is) alive) gone
-    (subst (λ (k : ConnId). Left k Fresh (record v { noting = c.forget.new.conns.items }) (record m { noting = without_conn k m.noting }) (view_of c.enter_state.new.self) old new) (sym is)
-    (c.enter_state.ensures.left told mid (forget_represents v old m c.args.conn c.forget.new.conns.items c.forget.ensures at)))

@@ -61,6 +61,7 @@ pub returns-in_default-fault : goal.returns-in_default-fault
 returns-in_default-fault g c = record {
   frame = record {
     set = let s = c.lose_lines.ensures.frame.set in record { lane = s.lane; lanes = s.lanes; log_exit = s.log_exit; kind = s.kind; texts = s.texts };
+    noting = c.lose_lines.ensures.frame.noting;
     fewer = c.lose_lines.ensures.frame.fewer;
     places = c.lose_lines.ensures.frame.places;
     replies = c.lose_lines.ensures.frame.replies;
@@ -82,7 +83,6 @@ returns-in_default-fault g c = record {
         let rose : StoreRose old mid = own_rose (IsOfEventLog c.args.self.now.events.lane) _ old mid (λ file own. inr (inr (c.args.self.now.events.lane, of_lane c.args.self.now.events.lane file own))) c.flush.ensures.cause (c.in-Err.is ∙ ap Err disk_it) in
         does_then (λ none. absurd none) (flushed_does (view_of c.args.self.now) c.flush.new.self [] old mid c.flush.ensures.cause.monotone (λ broken. inr rose) refl) c.lose_lines.ensures.frame.does;
   };
-  none = c.lose_lines.ensures.none;
   says = λ p s.
       let old = g.D.Disk.view c.args.disk.now in
       let mid = g.D.Disk.view c.flush.new.disk in
@@ -101,6 +101,7 @@ returns-in_default-fault g c = record {
 pub returns-in_default-clause-frame : goal.returns-in_default-clause-frame
 returns-in_default-clause-frame g c = record {
   set = record { lane = refl; lanes = refl; log_exit = refl; kind = refl; texts = refl };
+  noting = c.clear.ensures.items;
   fewer = omega arith;
   places = omega arith;
   replies = omega arith;
@@ -113,6 +114,7 @@ returns-in_default-clause-frame g c = record {
 pub returns-in-Broken-clause-frame : goal.returns-in-Broken-clause-frame
 returns-in-Broken-clause-frame g c = record {
   set = record { lane = refl; lanes = refl; log_exit = refl; kind = refl; texts = refl };
+  noting = c.clear-in-Broken.ensures.items;
   fewer = omega arith;
   places = omega arith;
   replies = omega arith;

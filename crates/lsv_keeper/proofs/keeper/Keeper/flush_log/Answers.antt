@@ -1,4 +1,4 @@
-use Rattle.std.proofs.Common.{◌≡◌, ◌∷◌, ◌++◌, [], Some, sym, ◌∙◌, subst, map, None, refl, arith, ap}
+use Rattle.std.proofs.Common.{◌≡◌, ◌∷◌, ◌++◌, [], Some, sym, ◌∙◌, subst, map, None, refl, arith, ap, rules}
 use Rattle.lsv_session.specs.declared.connection.ConnId.{ConnId}
 use Rattle.lsv_session.specs.declared.connection.ConnState.TheVariants.{Dead}
 use Rattle.lsv_machine.specs.Answers.{CommitPoint, reply_of, say}
@@ -27,25 +27,19 @@ returns-in-Some-flush-clause-log g c = λ told m k at own.
     (record { reads_itself = g.met.D.Disk.reads_itself told c.args.disk.now; is_now = g.met.D.Disk.is_now told c.args.disk.now; only_now = g.met.D.Disk.only_now told c.args.disk.now })
     (record { reads_itself = g.met.D.Disk.reads_itself told c.flush.new.disk; is_now = g.met.D.Disk.is_now told c.flush.new.disk; only_now = g.met.D.Disk.only_now told c.flush.new.disk }) at own
     (λ its value here rep. c.in-Some-flush.ensures.flushed told its value here rep)
-    (subst (λ (j : ConnId). c.put_point.new.out.items ≡ c.args.out.now.items ++ map reply_of (say j (CommitPoint c.in-Some-flush.point) ∷ [])) k_is c.put_point.ensures.told)
+    (subst (λ (j : ConnId). c.put_point.new.out.items ≡ c.args.out.now.items ++ map reply_of (say j (CommitPoint c.in-Some-flush.point) ∷ [])) k_is c.put_point.ensures.items)
 
 pub returns-in-None-clause-log : goal.returns-in-None-clause-log
 returns-in-None-clause-log g c = λ told m k at own.
     let k_is : c.in-Some.conn ≡ k = one_conn c.in-Some.conn k (c.in-Some.ensures ∙ sym (at.owner c.args.number) ∙ own) in
-    lost_gives c.args.number k (view_of c.args.self.now) (view_of c.release.new.self) c.flush.new.self m (g.D.Disk.view c.args.disk.now) (g.D.Disk.view c.flush.new.disk) c.args.out.now.items c.put_replies.new.out.items c.put_replies.ensures.told.0
+    lost_gives c.args.number k (view_of c.args.self.now) (view_of c.release.new.self) c.flush.new.self m (g.D.Disk.view c.args.disk.now) (g.D.Disk.view c.flush.new.disk) c.args.out.now.items c.put_replies.new.out.items c.put_replies.ensures.answers
     (record { reads_itself = g.met.D.Disk.reads_itself told c.args.disk.now; is_now = g.met.D.Disk.is_now told c.args.disk.now; only_now = g.met.D.Disk.only_now told c.args.disk.now })
     (record { reads_itself = g.met.D.Disk.reads_itself told c.flush.new.disk; is_now = g.met.D.Disk.is_now told c.flush.new.disk; only_now = g.met.D.Disk.only_now told c.flush.new.disk }) at own
     (λ its value here rep. c.in-None.ensures.flushed told its value here rep)
     (subst (λ (j : ConnId). Departs (Some c.args.number) j Dead (record (view_of c.args.self.now) { logs = c.flush.new.self }) (view_of c.release.new.self)) k_is c.release.ensures.departs)
     c.release.ensures.logs
-    (subst (λ (j : ConnId). IsRefused j c.put_replies.ensures.told.0) k_is c.put_replies.ensures.told.1)
-    c.put_replies.ensures.told.2
-
-pub returns-in-Some-flush-clause-syncs : goal.returns-in-Some-flush-clause-syncs
-returns-in-Some-flush-clause-syncs g c told m k at own = flushed_one c.args.number k (view_of c.args.self.now) (Some c.in-Some-flush.point) _ _ m (g.D.Disk.view c.args.disk.now) (g.D.Disk.view c.flush.new.disk) at own (λ its value here rep. c.in-Some-flush.ensures.flushed told its value here rep)
-
-pub returns-in-None-clause-syncs : goal.returns-in-None-clause-syncs
-returns-in-None-clause-syncs g c told m k at own = flushed_one c.args.number k (view_of c.args.self.now) None _ _ m (g.D.Disk.view c.args.disk.now) (g.D.Disk.view c.flush.new.disk) at own (λ its value here rep. c.in-None.ensures.flushed told its value here rep)
+    (subst (λ (j : ConnId). IsRefused j c.put_replies.ensures.answers) k_is c.put_replies.ensures.says)
+    c.put_replies.ensures.items
 
 pub returns-in_default-clause-frame : goal.returns-in_default-clause-frame
 returns-in_default-clause-frame g c = record {
@@ -54,6 +48,7 @@ returns-in_default-clause-frame g c = record {
   noting = refl;
   places = omega arith;
   replies = omega arith;
+  syncs = search rules;
   does = does_none (λ none. none);
   waits = λ p n it. it;
 }
@@ -68,6 +63,7 @@ returns-in-Some-flush-clause-frame g c = record {
   noting = refl;
   places = omega arith;
   replies = let r = c.put_point.ensures.room in omega (arith, r);
+  syncs = λ told m k at own. flushed_one c.args.number k (view_of c.args.self.now) (Some c.in-Some-flush.point) _ _ m (g.D.Disk.view c.args.disk.now) (g.D.Disk.view c.flush.new.disk) at own (λ its value here rep. c.in-Some-flush.ensures.flushed told its value here rep);
   does =
       let k = c.in-Some-flush.ensures.keeps in
       let (its, whole, are) = k.flushed in
@@ -80,7 +76,7 @@ returns-in-Some-flush-clause-frame g c = record {
 pub returns-in-Some-flush-clause-says : goal.returns-in-Some-flush-clause-says
 returns-in-Some-flush-clause-says g c p it whole =
     let mine = it c.in-Some.conn (sym c.in-Some.ensures) in
-    says_as (λ j. j ≡ c.in-Some.conn) (IsAmong p) (λ j. ⊥) _ c.args.out.now.items c.put_point.new.out.items (λ j is. subst (IsAmong p) (sym is) mine.0) (λ j is none. absurd none) (says_point c.in-Some.conn c.in-Some-flush.point c.args.out.now.items c.put_point.new.out.items c.put_point.ensures.told)
+    says_as (λ j. j ≡ c.in-Some.conn) (IsAmong p) (λ j. ⊥) _ c.args.out.now.items c.put_point.new.out.items (λ j is. subst (IsAmong p) (sym is) mine.0) (λ j is none. absurd none) (says_point c.in-Some.conn c.in-Some-flush.point c.args.out.now.items c.put_point.new.out.items c.put_point.ensures.items)
 
 pub returns-in-None-clause-frame : goal.returns-in-None-clause-frame
 returns-in-None-clause-frame g c = record {
@@ -89,6 +85,7 @@ returns-in-None-clause-frame g c = record {
   noting = c.release.ensures.departs.beside.noting;
   places = c.release.ensures.room;
   replies = c.put_replies.ensures.room;
+  syncs = λ told m k at own. flushed_one c.args.number k (view_of c.args.self.now) None _ _ m (g.D.Disk.view c.args.disk.now) (g.D.Disk.view c.flush.new.disk) at own (λ its value here rep. c.in-None.ensures.flushed told its value here rep);
   does =
       let k = c.in-None.ensures.keeps in
       taken_then c.args.number c.flush.new.self (λ all none. absurd none) k.flushed.0
@@ -100,9 +97,9 @@ returns-in-None-clause-frame g c = record {
 pub returns-in-None-clause-says : goal.returns-in-None-clause-says
 returns-in-None-clause-says g c p it whole =
     let mine = it c.in-Some.conn (sym c.in-Some.ensures) in
-    let t = c.put_replies.ensures.told in
+    let t = c.put_replies.ensures in
     let rose : StoreRose (g.D.Disk.view c.args.disk.now) (g.D.Disk.view c.flush.new.disk) = elim (some_or (log_in (view_of c.args.self.now) c.args.number)) [
       | nothing none ↦ absurd (mine.1 none)
       | just its here ↦ c.in-None.ensures.keeps.flushed.1 its here (whole c.args.number its here)
     ] in
-    says_as (λ j. j ≡ c.in-Some.conn) (IsAmong p) _ _ c.args.out.now.items c.put_replies.new.out.items (λ j is. subst (IsAmong p) (sym is) mine.0) (λ j is e. rose) (says_told c.in-Some.conn (told.Refused DeviceFault) t.0 c.args.out.now.items c.put_replies.new.out.items t.1 t.2)
+    says_as (λ j. j ≡ c.in-Some.conn) (IsAmong p) _ _ c.args.out.now.items c.put_replies.new.out.items (λ j is. subst (IsAmong p) (sym is) mine.0) (λ j is e. rose) (says_told c.in-Some.conn (told.Refused DeviceFault) t.answers c.args.out.now.items c.put_replies.new.out.items t.says t.items)

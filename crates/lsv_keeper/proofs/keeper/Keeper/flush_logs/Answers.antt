@@ -50,7 +50,7 @@ loop-number-preserved g c = record {
       c.loop-number.invariant.flushing c.flush_log.ensures.frame.set c.flush_log.ensures.frame.waiting c.flush_log.ensures.frame.noting c.flush_log.ensures.frame.places c.flush_log.ensures.frame.replies c.flush_log.ensures.log;
   synced = λ told m at. waiting_on g.D.Disk.tells c.loop-number.number-index c.number-item.result c.deref-number-items.result.now (view_of c.args.self.now) (view_of c.loop-number.self) (room_in c.args.out.now) (room_in c.loop-number.out) c.args.out.now.items c.loop-number.out.items
       (g.D.Disk.view c.args.disk.now) (g.D.Disk.view c.loop-number.disk) (g.D.Disk.view c.flush_log.new.disk) (ap (λ (x : Vec LogNo). x.items) (sym c.replace-waiting.ensures.value) ∙ sym c.deref-number-items.ensures.value) c.loop-number-test.true c.number-item.is
-      c.loop-number.invariant.flushing told m at (c.loop-number.invariant.synced told m at) (λ after k rep own. c.flush_log.ensures.syncs told after k rep own);
+      c.loop-number.invariant.flushing told m at (c.loop-number.invariant.synced told m at) (λ after k rep own. c.flush_log.ensures.frame.syncs told after k rep own);
   kept = does_then (λ none. absurd none) c.loop-number.invariant.kept c.flush_log.ensures.frame.does;
   waits = λ p n it. c.flush_log.ensures.frame.waits p n (c.loop-number.invariant.waits p n it);
   says = λ p all whole.
@@ -61,27 +61,23 @@ loop-number-preserved g c = record {
       (c.flush_log.ensures.says p (c.loop-number.invariant.waits p c.number-item.result its) (c.loop-number.invariant.kept.whole whole)));
 }
 
-pub returns-clause-set : goal.returns-clause-set
-returns-clause-set g c = c.loop-number.invariant.flushing.set
-
-pub returns-clause-none : goal.returns-clause-none
-returns-clause-none g c = c.loop-number.invariant.flushing.none
-
-pub returns-clause-noting : goal.returns-clause-noting
-returns-clause-noting g c = c.loop-number.invariant.flushing.noting
+pub returns-clause-frame : goal.returns-clause-frame
+returns-clause-frame g c = record {
+  set = c.loop-number.invariant.flushing.set;
+  none = c.loop-number.invariant.flushing.none;
+  noting = c.loop-number.invariant.flushing.noting;
+  syncs =
+      λ told m at. waiting_ends c.deref-number-items.result.now (view_of c.args.self.now) m (g.D.Disk.view c.args.disk.now) (g.D.Disk.view c.loop-number.disk) c.loop-number.number-index (omega (arith, c.loop-number-test.false, c.loop-number.auto.number-index-end))
+      (ap (λ (x : Vec LogNo). x.items) (sym c.replace-waiting.ensures.value) ∙ sym c.deref-number-items.ensures.value) at (c.loop-number.invariant.synced told m at);
+  does =
+      unwaiting_then ⊥ (view_of c.args.self.now) (record (view_of c.args.self.now) { waiting = [] }) (view_of c.loop-number.self) (g.D.Disk.view c.args.disk.now) (g.D.Disk.view c.loop-number.disk) refl c.loop-number.invariant.kept;
+}
 
 pub returns-clause-logs : goal.returns-clause-logs
 returns-clause-logs g c = λ told m at. flushing_ends g.D.Disk.tells c.deref-number-items.result.now (view_of c.args.self.now) (view_of c.loop-number.self) (room_in c.args.out.now) (room_in c.loop-number.out) c.args.out.now.items c.loop-number.out.items
     (g.D.Disk.view c.args.disk.now) (g.D.Disk.view c.loop-number.disk) c.loop-number.number-index (omega (arith, c.loop-number-test.false, c.loop-number.auto.number-index-end)) (ap (λ (x : Vec LogNo). x.items) (sym c.replace-waiting.ensures.value) ∙ sym c.deref-number-items.ensures.value) c.loop-number.invariant.flushing told m at
 
-pub returns-clause-syncs : goal.returns-clause-syncs
-returns-clause-syncs g c = λ told m at. waiting_ends c.deref-number-items.result.now (view_of c.args.self.now) m (g.D.Disk.view c.args.disk.now) (g.D.Disk.view c.loop-number.disk) c.loop-number.number-index (omega (arith, c.loop-number-test.false, c.loop-number.auto.number-index-end))
-    (ap (λ (x : Vec LogNo). x.items) (sym c.replace-waiting.ensures.value) ∙ sym c.deref-number-items.ensures.value) at (c.loop-number.invariant.synced told m at)
-
 -- ---- Over every disk
-
-pub returns-clause-does : goal.returns-clause-does
-returns-clause-does g c = unwaiting_then ⊥ (view_of c.args.self.now) (record (view_of c.args.self.now) { waiting = [] }) (view_of c.loop-number.self) (g.D.Disk.view c.args.disk.now) (g.D.Disk.view c.loop-number.disk) refl c.loop-number.invariant.kept
 
 pub returns-clause-says : goal.returns-clause-says
 returns-clause-says g c p s whole = c.loop-number.invariant.says p (subst (AllByRecursion (Waits p (view_of c.args.self.now))) (ap (λ (x : Vec LogNo). x.items) (sym c.replace-waiting.ensures.value) ∙ sym c.deref-number-items.ensures.value) s.waits) whole

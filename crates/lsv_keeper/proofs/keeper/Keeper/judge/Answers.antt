@@ -50,16 +50,19 @@ returns-in-Err g c = record {
       let old = g.D.Disk.view c.args.disk.now in
       let new = g.D.Disk.view c.refuse.new.disk in
       record {
-        keeps = c.refuse.ensures.frame.keeps;
+        keeps = (c.refuse.ensures.done c.args.now).frame.keeps;
         told = subst IsTold (sym c.refuse.ensures.told) tt;
         row = λ told m job at conn is.
             let alive : is_dead (m.states c.args.conn) ≡ false = ap is_dead (at.states c.args.conn) ∙ c.requires.alive in
             let e : judged (m.states c.args.conn) c.args.message ≡ Err c.in-Err.why =
             ap (λ (s : ConnState). judged s c.args.message) (at.states c.args.conn ∙ sym c.requires.state ∙ sym c.copied.ensures) ∙ sym c.in-Err.ensures in
-            c.refuse.ensures.row told m job c.args.now at conn alive (judged_fair (m.states c.args.conn) c.args.message c.in-Err.why e c.args.conn)
-            (message_refused (settings_of v) c.args.now job c.args.message c.in-Err.why m c.args.conn conn is alive e);
-        syncs = λ told m at. of_none (Restarts (bodies.Msg c.args.message)) v v' old new (c.refuse.ensures.frame.syncs told m at);
-        spared = λ told m at. spares_none v v' old new m at (c.refuse.ensures.frame.syncs told m at);
-        does = quiet_told (λ e. subst Innocent (sym c.in-Err.ensures) (judged_innocent c.copied.result c.args.message) (refused_is c.in-Err.why (sym c.refuse.ensures.told ∙ e))) c.refuse.ensures.frame.does;
+            (c.refuse.ensures.done c.args.now).row told m job at conn (
+              alive,
+              judged_fair (m.states c.args.conn) c.args.message c.in-Err.why e c.args.conn,
+              message_refused (settings_of v) c.args.now job c.args.message c.in-Err.why m c.args.conn conn is alive e,
+            );
+        syncs = λ told m at. of_none (Restarts (bodies.Msg c.args.message)) v v' old new ((c.refuse.ensures.done c.args.now).frame.syncs told m at);
+        spared = λ told m at. spares_none v v' old new m at ((c.refuse.ensures.done c.args.now).frame.syncs told m at);
+        does = quiet_told (λ e. subst Innocent (sym c.in-Err.ensures) (judged_innocent c.copied.result c.args.message) (refused_is c.in-Err.why (sym c.refuse.ensures.told ∙ e))) (c.refuse.ensures.done c.args.now).frame.does;
       };
 }

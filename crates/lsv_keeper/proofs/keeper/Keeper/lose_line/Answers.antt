@@ -25,12 +25,10 @@ returns-in-Dead-clause-refused g c = λ told m at. refuses_no_more c.args.conn (
     (record { reads_itself = g.met.D.Disk.reads_itself told c.args.disk.now; is_now = g.met.D.Disk.is_now told c.args.disk.now; only_now = g.met.D.Disk.only_now told c.args.disk.now }) at
     (ap is_dead (at.states c.args.conn ∙ sym c.state.ensures ∙ c.in-Dead.is))
 
-pub returns-clause-noting : goal.returns-clause-noting
-returns-clause-noting g c = c.enter_state.ensures.enters.noting
-
 pub returns-clause-frame : goal.returns-clause-frame
 returns-clause-frame g c = record {
   set = let k = c.enter_state.ensures.frame.keeps in record { lane = k.lane; lanes = k.lanes; log_exit = k.log_exit; kind = k.kind; texts = k.texts };
+  noting = c.enter_state.ensures.enters.noting;
   fewer = c.enter_state.ensures.enters.fewer;
   places = c.enter_state.ensures.frame.keeps.room_is;
   replies = let r = c.put_replies.ensures.room in omega (arith, r);
@@ -39,13 +37,14 @@ returns-clause-frame g c = record {
 }
 
 pub returns-clause-refused : goal.returns-clause-refused
-returns-clause-refused g c = λ told m at. refuses_one c.args.conn (view_of c.args.self.now) (view_of c.enter_state.new.self) m (g.D.Disk.view c.args.disk.now) (g.D.Disk.view c.enter_state.new.disk) c.args.out.now.items c.put_replies.new.out.items c.put_replies.ensures.told.0
+returns-clause-refused g c = λ told m at. refuses_one c.args.conn (view_of c.args.self.now) (view_of c.enter_state.new.self) m (g.D.Disk.view c.args.disk.now) (g.D.Disk.view c.enter_state.new.disk) c.args.out.now.items c.put_replies.new.out.items c.put_replies.ensures.answers
     (record { reads_itself = g.met.D.Disk.reads_itself told c.args.disk.now; is_now = g.met.D.Disk.is_now told c.args.disk.now; only_now = g.met.D.Disk.only_now told c.args.disk.now }) at
-    (living (m.states c.args.conn) (λ e. c.in_default.not-Dead (c.state.ensures ∙ sym (at.states c.args.conn) ∙ e))) (c.enter_state.ensures.left told m at) c.put_replies.ensures.told.1 c.put_replies.ensures.told.2
+    (living (m.states c.args.conn) (λ e. c.in_default.not-Dead (c.state.ensures ∙ sym (at.states c.args.conn) ∙ e))) (c.enter_state.ensures.left told m at) c.put_replies.ensures.says c.put_replies.ensures.items
 
 pub returns-in-Dead-clause-frame : goal.returns-in-Dead-clause-frame
 returns-in-Dead-clause-frame g c = record {
   set = record { lane = refl; lanes = refl; log_exit = refl; kind = refl; texts = refl };
+  noting = refl;
   fewer = omega arith;
   places = omega arith;
   replies = omega arith;
@@ -58,5 +57,5 @@ returns-in-Dead-clause-says g c = says_none _ (λ k. Unit {0}) c.args.out.now.it
 
 pub returns-clause-says : goal.returns-clause-says
 returns-clause-says g c =
-    let t = c.put_replies.ensures.told in
-    says_as (λ j. j ≡ c.args.conn) (λ j. j ≡ c.args.conn) _ (λ k. Unit {0}) c.args.out.now.items c.put_replies.new.out.items (λ j is. is) (λ j is e. tt) (says_told c.args.conn (told.Refused DeviceFault) t.0 c.args.out.now.items c.put_replies.new.out.items t.1 t.2)
+    let t = c.put_replies.ensures in
+    says_as (λ j. j ≡ c.args.conn) (λ j. j ≡ c.args.conn) _ (λ k. Unit {0}) c.args.out.now.items c.put_replies.new.out.items (λ j is. is) (λ j is e. tt) (says_told c.args.conn (told.Refused DeviceFault) t.answers c.args.out.now.items c.put_replies.new.out.items t.says t.items)

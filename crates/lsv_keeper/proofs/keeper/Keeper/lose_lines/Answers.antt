@@ -44,7 +44,7 @@ pub loop-conn-preserved : goal.loop-conn-preserved
 loop-conn-preserved g c = record {
   refusing = refusing_on g.D.Disk.tells c.loop-conn.conn-index _ c.deref-conn-items.result.now (view_of c.args.self.now) (view_of c.loop-conn.self) (view_of c.lose_line.new.self) (room_in c.args.out.now) (room_in c.loop-conn.out) (room_in c.lose_line.new.out)
       c.args.out.now.items c.loop-conn.out.items c.lose_line.new.out.items (g.D.Disk.view c.args.disk.now) (g.D.Disk.view c.loop-conn.disk) (g.D.Disk.view c.lose_line.new.disk) c.loop-conn-test.true (get_or_default _ _ _ _ c.loop-conn-test.true)
-      c.loop-conn.invariant.refusing c.lose_line.ensures.frame.set c.lose_line.ensures.noting c.lose_line.ensures.frame.fewer c.lose_line.ensures.frame.places c.lose_line.ensures.frame.replies c.lose_line.ensures.refused;
+      c.loop-conn.invariant.refusing c.lose_line.ensures.frame.set c.lose_line.ensures.frame.noting c.lose_line.ensures.frame.fewer c.lose_line.ensures.frame.places c.lose_line.ensures.frame.replies c.lose_line.ensures.refused;
   synced = λ told m at.
       let d = c.loop-conn.invariant.refusing.gives told m at in
       followed NoLog (view_of c.args.self.now) (view_of c.loop-conn.self) (view_of c.lose_line.new.self) (g.D.Disk.view c.args.disk.now) (g.D.Disk.view c.loop-conn.disk) (g.D.Disk.view c.lose_line.new.disk)
@@ -58,6 +58,7 @@ loop-conn-preserved g c = record {
 pub returns-clause-frame : goal.returns-clause-frame
 returns-clause-frame g c = record {
   set = let s = c.loop-conn.invariant.refusing.set in record { lane = s.lane; lanes = s.lanes; log_exit = s.log_exit; kind = s.kind; texts = s.texts };
+  noting = c.loop-conn.invariant.refusing.none;
   fewer = c.loop-conn.invariant.refusing.fewer;
   places =
       let is : c.args.self.now.noting.items ≡ c.deref-conn-items.result.now = (ap (λ (x : Vec ConnId). x.items) (sym c.replace-noting.ensures.value) ∙ sym c.deref-conn-items.ensures.value) in
@@ -72,9 +73,6 @@ returns-clause-frame g c = record {
   syncs = λ told m at. let s = c.loop-conn.invariant.synced told m at in record { past = s.past; each = s.each };
   does = c.loop-conn.invariant.kept;
 }
-
-pub returns-clause-none : goal.returns-clause-none
-returns-clause-none g c = c.loop-conn.invariant.refusing.none
 
 pub returns-clause-refused : goal.returns-clause-refused
 returns-clause-refused g c = λ told m at. refusing_ends g.D.Disk.tells c.deref-conn-items.result.now (view_of c.args.self.now) (view_of c.loop-conn.self) (room_in c.args.out.now) (room_in c.loop-conn.out) c.args.out.now.items c.loop-conn.out.items

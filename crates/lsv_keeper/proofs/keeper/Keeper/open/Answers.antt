@@ -17,31 +17,31 @@ returns-clause-read g c told = (c.in_ok-numbers.ensures.opened told).read
 
 pub returns-clause-held : goal.returns-clause-held
 returns-clause-held g c told =
-    lines_alike c.args.lane.number _ (g.D.Disk.view c.args.disk.now) (g.D.Disk.view c.open_numbers.new.disk) _ (c.open_numbers.ensures.run told) (c.in_ok-events.ensures.opened told).held
+    lines_alike c.args.lane.number _ (g.D.Disk.view c.args.disk.now) (g.D.Disk.view c.open_numbers.new.disk) _ (c.open_numbers.ensures.store.run told) (c.in_ok-events.ensures.opened told).held
 
 pub returns-clause-touched : goal.returns-clause-touched
 returns-clause-touched g c told =
-    both_run c.args.lane.number _ _ (g.D.Disk.view c.args.disk.now) (g.D.Disk.view c.open_numbers.new.disk) (g.D.Disk.view c.open_events.new.disk) (c.open_numbers.ensures.run told) (c.open_events.ensures.run told)
+    both_run c.args.lane.number _ _ (g.D.Disk.view c.args.disk.now) (g.D.Disk.view c.open_numbers.new.disk) (g.D.Disk.view c.open_events.new.disk) (c.open_numbers.ensures.store.run told) ((c.open_events.ensures.store c.args.lane.of).run told)
 
 pub returns-clause-store : goal.returns-clause-store
 returns-clause-store g c told =
     store_on c.args.lane.number c.args.lane.of (g.D.Disk.view c.args.disk.now) (g.D.Disk.view c.open_numbers.new.disk) (g.D.Disk.view c.open_events.new.disk)
-    (c.open_numbers.ensures.store told) (c.open_events.ensures.store told c.args.lane.of)
+    (c.open_numbers.ensures.store.store told) ((c.open_events.ensures.store c.args.lane.of).store told)
 
 pub returns-clause-kept : goal.returns-clause-kept
 returns-clause-kept g c told some =
     let mid = c.open_numbers.new.disk in
     entry_on c.args.lane.number _ (g.D.Disk.view c.args.disk.now) (g.D.Disk.view mid) (g.D.Disk.view c.open_events.new.disk)
     (record { reads_itself = g.met.D.Disk.reads_itself told mid; is_now = g.met.D.Disk.is_now told mid; only_now = g.met.D.Disk.only_now told mid })
-    (c.open_numbers.ensures.run told).later (c.open_numbers.ensures.kept told some) (c.open_events.ensures.run told)
+    (c.open_numbers.ensures.store.run told).later (c.open_numbers.ensures.kept told some) ((c.open_events.ensures.store c.args.lane.of).run told)
 
 pub returns-clause-opened : goal.returns-clause-opened
 returns-clause-opened g c told fit =
     let old = c.args.disk.now in
     opens_as _ (g.D.Disk.view old) (g.D.Disk.view c.open_numbers.new.disk) (g.D.Disk.view c.open_events.new.disk) _ _
     (record { reads_itself = g.met.D.Disk.reads_itself told old; is_now = g.met.D.Disk.is_now told old; only_now = g.met.D.Disk.only_now told old })
-    c.requires.lane c.requires.lanes (c.in_ok-numbers.ensures.opened told) (c.in_ok-events.ensures.opened told) (c.open_numbers.ensures.run told) (c.open_events.ensures.run told)
-    (c.open_numbers.ensures.store told) (c.open_events.ensures.store told c.args.lane.of) fit c.new-table.ensures c.new-logs.ensures c.new-waiting.ensures.items c.new-noting.ensures.items
+    c.requires.lane c.requires.lanes (c.in_ok-numbers.ensures.opened told) (c.in_ok-events.ensures.opened told) (c.open_numbers.ensures.store.run told) ((c.open_events.ensures.store c.args.lane.of).run told)
+    (c.open_numbers.ensures.store.store told) ((c.open_events.ensures.store c.args.lane.of).store told) fit c.new-table.ensures c.new-logs.ensures c.new-waiting.ensures.items c.new-noting.ensures.items
 
 pub returns-clause-cause : goal.returns-clause-cause
 returns-clause-cause g c o = record {
@@ -58,11 +58,11 @@ returns-in_err-numbers-clause-cause g c o =
     }
 
 pub returns-in_err-numbers-clause-touched : goal.returns-in_err-numbers-clause-touched
-returns-in_err-numbers-clause-touched g c told = numbers_run c.args.lane.number _ (g.D.Disk.view c.args.disk.now) (g.D.Disk.view c.open_numbers.new.disk) (c.open_numbers.ensures.run told)
+returns-in_err-numbers-clause-touched g c told = numbers_run c.args.lane.number _ (g.D.Disk.view c.args.disk.now) (g.D.Disk.view c.open_numbers.new.disk) (c.open_numbers.ensures.store.run told)
 
 pub returns-in_err-events-clause-touched : goal.returns-in_err-events-clause-touched
 returns-in_err-events-clause-touched g c told =
-    both_run c.args.lane.number _ _ (g.D.Disk.view c.args.disk.now) (g.D.Disk.view c.open_numbers.new.disk) (g.D.Disk.view c.open_events.new.disk) (c.open_numbers.ensures.run told) (c.open_events.ensures.run told)
+    both_run c.args.lane.number _ _ (g.D.Disk.view c.args.disk.now) (g.D.Disk.view c.open_numbers.new.disk) (g.D.Disk.view c.open_events.new.disk) (c.open_numbers.ensures.store.run told) ((c.open_events.ensures.store c.args.lane.of).run told)
 
 pub returns-in_err-events-clause-fault : goal.returns-in_err-events-clause-fault
 returns-in_err-events-clause-fault g c told =
@@ -72,20 +72,20 @@ returns-in_err-events-clause-fault g c told =
     passed (IsStoreFault c.args.lane.number c.args.lane.of old.reads) c.from_residual-in_err-events.result fault c.from_residual-in_err-events.ensures.1
     (inr (
       (last_of c.in_ok-numbers.numbers, (c.in_ok-numbers.ensures.opened told).read),
-      fault_alike c.args.lane.number mid.reads old.reads fault (events_alike c.args.lane.number _ old mid (c.open_numbers.ensures.run told)) (c.in_err-events.ensures.fault told),
+      fault_alike c.args.lane.number mid.reads old.reads fault (events_alike c.args.lane.number _ old mid (c.open_numbers.ensures.store.run told)) (c.in_err-events.ensures.fault told),
     ))
 
 pub returns-in_err-events-clause-store : goal.returns-in_err-events-clause-store
 returns-in_err-events-clause-store g c told =
     store_on c.args.lane.number c.args.lane.of (g.D.Disk.view c.args.disk.now) (g.D.Disk.view c.open_numbers.new.disk) (g.D.Disk.view c.open_events.new.disk)
-    (c.open_numbers.ensures.store told) (c.open_events.ensures.store told c.args.lane.of)
+    (c.open_numbers.ensures.store.store told) ((c.open_events.ensures.store c.args.lane.of).store told)
 
 pub returns-in_err-events-clause-kept : goal.returns-in_err-events-clause-kept
 returns-in_err-events-clause-kept g c told some =
     let mid = c.open_numbers.new.disk in
     entry_on c.args.lane.number _ (g.D.Disk.view c.args.disk.now) (g.D.Disk.view mid) (g.D.Disk.view c.open_events.new.disk)
     (record { reads_itself = g.met.D.Disk.reads_itself told mid; is_now = g.met.D.Disk.is_now told mid; only_now = g.met.D.Disk.only_now told mid })
-    (c.open_numbers.ensures.run told).later (c.open_numbers.ensures.kept told some) (c.open_events.ensures.run told)
+    (c.open_numbers.ensures.store.run told).later (c.open_numbers.ensures.kept told some) ((c.open_events.ensures.store c.args.lane.of).run told)
 
 pub returns-in_err-events-clause-cause : goal.returns-in_err-events-clause-cause
 returns-in_err-events-clause-cause g c o =
@@ -118,8 +118,8 @@ returns-clause-sound g c failed = elim failed [
 
 pub returns-clause-unused : goal.returns-clause-unused
 returns-clause-unused g c told n =
-    unused_on n (g.D.Disk.view c.args.disk.now) (g.D.Disk.view c.open_numbers.new.disk) (g.D.Disk.view c.open_events.new.disk) (c.open_numbers.ensures.unused told n) (c.open_events.ensures.unused told n)
+    unused_on n (g.D.Disk.view c.args.disk.now) (g.D.Disk.view c.open_numbers.new.disk) (g.D.Disk.view c.open_events.new.disk) (c.open_numbers.ensures.store.unused told n) ((c.open_events.ensures.store c.args.lane.of).unused told n)
 
 pub returns-in_err-events-clause-unused : goal.returns-in_err-events-clause-unused
 returns-in_err-events-clause-unused g c told n =
-    unused_on n (g.D.Disk.view c.args.disk.now) (g.D.Disk.view c.open_numbers.new.disk) (g.D.Disk.view c.open_events.new.disk) (c.open_numbers.ensures.unused told n) (c.open_events.ensures.unused told n)
+    unused_on n (g.D.Disk.view c.args.disk.now) (g.D.Disk.view c.open_numbers.new.disk) (g.D.Disk.view c.open_events.new.disk) (c.open_numbers.ensures.store.unused told n) ((c.open_events.ensures.store c.args.lane.of).unused told n)

@@ -29,7 +29,7 @@ use Rattle.lsv_keeper.proofs.Making.{begun_keeps, create_err, drawn_keeps, lined
 use Rattle.lsv_keeper.proofs.Reporting.{if_err_as}
 use Rattle.lsv_keeper.proofs.Stopping.{MadeIt, begins, line_stops, made_it, none_drawn, not_made, nothing_done}
 use Rattle.lsv_keeper.proofs.Syncing.{drawn_quiet, followed, fresh_one, line_quiet, making, owns_one, reserved_fresh, reserved_quiet}
-use Rattle.lsv_keeper.proofs.Causes.{create_cause, does_all, does_any, does_as, does_caused, does_reserved, does_same, does_then, does_unfaulted, none_of_some, own_rose, owns_does, quiet_then, same_err, still}
+use Rattle.lsv_keeper.proofs.Causes.{create_cause, does_all, does_any, does_caused, does_reserved, does_same, does_then, does_unfaulted, none_of_some, own_rose, owns_does, quiet_then, same_err, still}
 use Rattle.lsv_keeper.specs.Causes.{StoreRose}
 use Rattle.lsv_request.specs.declared.refusal.Refusal.TheVariants.{DeviceFault}
 use Rattle.lsv_keeper.proofs.keeper.Keeper.open_log.Goals as goal
@@ -38,9 +38,9 @@ use Rattle.lsv_keeper.proofs.keeper.Keeper.open_log.Goals as goal
 
 pub returns-in_default-clause-frame : goal.returns-in_default-clause-frame
 returns-in_default-clause-frame g c = record {
-  keeps = reserved_keeps (view_of c.args.self.now) (view_of c.prepare.new.self) c.prepare.ensures.same;
-  syncs = λ told m at. reserved_quiet NoLog (view_of c.args.self.now) (view_of c.prepare.new.self) (g.D.Disk.view c.args.disk.now) c.prepare.ensures.same;
-  does = does_reserved (λ e. cc) (still (g.D.Disk.view c.args.disk.now)) c.prepare.ensures.same;
+  keeps = reserved_keeps (view_of c.args.self.now) (view_of c.prepare.new.self) c.prepare.ensures.reserved.same;
+  syncs = λ told m at. reserved_quiet NoLog (view_of c.args.self.now) (view_of c.prepare.new.self) (g.D.Disk.view c.args.disk.now) c.prepare.ensures.reserved.same;
+  does = does_reserved (λ e. cc) (still (g.D.Disk.view c.args.disk.now)) c.prepare.ensures.reserved.same;
 }
 
 pub returns-in_default-clause-stopped : goal.returns-in_default-clause-stopped
@@ -48,25 +48,25 @@ returns-in_default-clause-stopped g c told m at =
     let d0 = c.args.disk.now in
     nothing_done (view_of c.args.self.now) (view_of c.prepare.new.self) (g.D.Disk.view d0) c.args.now c.args.conn c.args.head m
     (record { reads_itself = g.met.D.Disk.reads_itself told d0; is_now = g.met.D.Disk.is_now told d0; only_now = g.met.D.Disk.only_now told d0 })
-    at (ap is_running (at.states c.args.conn) ∙ c.requires.free) c.prepare.ensures.same
+    at (ap is_running (at.states c.args.conn) ∙ c.requires.free) c.prepare.ensures.reserved.same
 
 -- ---- No number
 
 pub draw-requires : goal.draw-requires
-draw-requires g c = record { stands = λ told. (let (m, at) = c.requires.stands told in (m, reserved_represents (view_of c.args.self.now) (view_of c.prepare.new.self) (g.D.Disk.view c.args.disk.now) m c.prepare.ensures.same at)) }
+draw-requires g c = record { stands = λ told. (let (m, at) = c.requires.stands told in (m, reserved_represents (view_of c.args.self.now) (view_of c.prepare.new.self) (g.D.Disk.view c.args.disk.now) m c.prepare.ensures.reserved.same at)) }
 
 pub returns-in_err-number-clause-frame : goal.returns-in_err-number-clause-frame
 returns-in_err-number-clause-frame g c = record {
-  keeps = drawn_keeps (view_of c.args.self.now) (view_of c.prepare.new.self) (view_of c.draw.new.self) c.prepare.ensures.same c.draw.ensures.frame.same;
+  keeps = drawn_keeps (view_of c.args.self.now) (view_of c.prepare.new.self) (view_of c.draw.new.self) c.prepare.ensures.reserved.same c.draw.ensures.frame.same;
   syncs = λ told m at.
       let v : KeeperView = view_of c.args.self.now in
       let v1 : KeeperView = view_of c.prepare.new.self in
       let v2 : KeeperView = view_of c.draw.new.self in
       let old = g.D.Disk.view c.args.disk.now in
       let mid = g.D.Disk.view c.draw.new.disk in
-      followed NoLog v v1 v2 old old mid (reserved_quiet NoLog v v1 old c.prepare.ensures.same) (drawn_quiet NoLog v1 v2 old mid c.draw.ensures.frame.same c.draw.ensures.frame.past (c.draw.ensures.frame.syncs told));
+      followed NoLog v v1 v2 old old mid (reserved_quiet NoLog v v1 old c.prepare.ensures.reserved.same) (drawn_quiet NoLog v1 v2 old mid c.draw.ensures.frame.same c.draw.ensures.frame.past (c.draw.ensures.frame.syncs told));
   does =
-      quiet_then (λ e. same_err c.from_residual.result c.in_err-number.field-0.0 DeviceFault c.from_residual.ensures.1 e) (does_reserved (λ none. none) (still (g.D.Disk.view c.args.disk.now)) c.prepare.ensures.same) (does_all c.in_err-number.ensures.frame.does);
+      quiet_then (λ e. same_err c.from_residual.result c.in_err-number.field-0.0 DeviceFault c.from_residual.ensures.1 e) (does_reserved (λ none. none) (still (g.D.Disk.view c.args.disk.now)) c.prepare.ensures.reserved.same) (does_all c.in_err-number.ensures.frame.does);
 }
 
 pub returns-in_err-number-clause-stopped : goal.returns-in_err-number-clause-stopped
@@ -78,22 +78,22 @@ returns-in_err-number-clause-stopped g c told =
     let new = g.D.Disk.view c.draw.new.disk in
     let why = c.in_err-number.field-0.0 in
     if_err_as (λ (w : Refusal). (m : Machine) → Represents v old m → Stopped v c.args.now c.args.conn (m.states c.args.conn) c.args.head m w v2 old new) c.from_residual.result why c.from_residual.ensures.1 (λ m at.
-    let at1 = reserved_represents v v1 old m c.prepare.ensures.same at in
-    none_drawn v v1 v2 old new c.args.now c.args.conn c.args.head m why (ap is_running (at.states c.args.conn) ∙ c.requires.free) (reserved_keeps v v1 c.prepare.ensures.same)
+    let at1 = reserved_represents v v1 old m c.prepare.ensures.reserved.same at in
+    none_drawn v v1 v2 old new c.args.now c.args.conn c.args.head m why (ap is_running (at.states c.args.conn) ∙ c.requires.free) (reserved_keeps v v1 c.prepare.ensures.reserved.same)
     (c.draw.ensures.frame.beside told m at1) (c.in_err-number.ensures.none told m at1))
 
 -- ---- Another writes the log of the number
 
 pub returns-then-is_some-clause-frame : goal.returns-then-is_some-clause-frame
 returns-then-is_some-clause-frame g c = record {
-  keeps = drawn_keeps (view_of c.args.self.now) (view_of c.prepare.new.self) (view_of c.draw.new.self) c.prepare.ensures.same c.draw.ensures.frame.same;
+  keeps = drawn_keeps (view_of c.args.self.now) (view_of c.prepare.new.self) (view_of c.draw.new.self) c.prepare.ensures.reserved.same c.draw.ensures.frame.same;
   syncs = λ told m at.
       let v : KeeperView = view_of c.args.self.now in
       let v1 : KeeperView = view_of c.prepare.new.self in
       let old = g.D.Disk.view c.args.disk.now in
       let mid = g.D.Disk.view c.draw.new.disk in
-      followed NoLog v v1 (view_of c.draw.new.self) old old mid (reserved_quiet NoLog v v1 old c.prepare.ensures.same) (drawn_quiet NoLog v1 (view_of c.draw.new.self) old mid c.draw.ensures.frame.same c.draw.ensures.frame.past (c.draw.ensures.frame.syncs told));
-  does = quiet_then (λ e. absurd (cc)) (does_reserved (λ none. none) (still (g.D.Disk.view c.args.disk.now)) c.prepare.ensures.same) (does_all c.in_ok-number.ensures.frame.does);
+      followed NoLog v v1 (view_of c.draw.new.self) old old mid (reserved_quiet NoLog v v1 old c.prepare.ensures.reserved.same) (drawn_quiet NoLog v1 (view_of c.draw.new.self) old mid c.draw.ensures.frame.same c.draw.ensures.frame.past (c.draw.ensures.frame.syncs told));
+  does = quiet_then (λ e. absurd (cc)) (does_reserved (λ none. none) (still (g.D.Disk.view c.args.disk.now)) c.prepare.ensures.reserved.same) (does_all c.in_ok-number.ensures.frame.does);
 }
 
 pub returns-then-is_some-clause-stopped : goal.returns-then-is_some-clause-stopped
@@ -101,8 +101,8 @@ returns-then-is_some-clause-stopped g c told m at =
     let v : KeeperView = view_of c.args.self.now in
     let v1 : KeeperView = view_of c.prepare.new.self in
     let old = g.D.Disk.view c.args.disk.now in
-    let at1 = reserved_represents v v1 old m c.prepare.ensures.same at in
-    let its = ready v v1 (view_of c.draw.new.self) old (g.D.Disk.view c.draw.new.disk) m c.in_ok-number.number at c.prepare.ensures.same c.draw.ensures.frame.same (c.in_ok-number.ensures.drawn told m at1) (c.draw.ensures.frame.beside told m at1) in
+    let at1 = reserved_represents v v1 old m c.prepare.ensures.reserved.same at in
+    let its = ready v v1 (view_of c.draw.new.self) old (g.D.Disk.view c.draw.new.disk) m c.in_ok-number.number at c.prepare.ensures.reserved.same c.draw.ensures.frame.same (c.in_ok-number.ensures.drawn told m at1) (c.draw.ensures.frame.beside told m at1) in
     absurd (let q : false ≡ true = ap is_some (sym its.free) ∙ (ap is_some (sym c.owner.ensures) ∙ (sym c.is_some.ensures ∙ c.if-is_some.true)) in cc)
 
 -- ---- No log
@@ -113,12 +113,12 @@ create-requires-clause-unmade g c told =
     let v : KeeperView = view_of c.args.self.now in
     let v1 : KeeperView = view_of c.prepare.new.self in
     let old = g.D.Disk.view c.args.disk.now in
-    let at1 = reserved_represents v v1 old m c.prepare.ensures.same at in
-    (ready v v1 (view_of c.draw.new.self) old (g.D.Disk.view c.draw.new.disk) m c.in_ok-number.number at c.prepare.ensures.same c.draw.ensures.frame.same (c.in_ok-number.ensures.drawn told m at1) (c.draw.ensures.frame.beside told m at1)).unmade
+    let at1 = reserved_represents v v1 old m c.prepare.ensures.reserved.same at in
+    (ready v v1 (view_of c.draw.new.self) old (g.D.Disk.view c.draw.new.disk) m c.in_ok-number.number at c.prepare.ensures.reserved.same c.draw.ensures.frame.same (c.in_ok-number.ensures.drawn told m at1) (c.draw.ensures.frame.beside told m at1)).unmade
 
 pub returns-in-Err-clause-frame : goal.returns-in-Err-clause-frame
 returns-in-Err-clause-frame g c = record {
-  keeps = drawn_keeps (view_of c.args.self.now) (view_of c.prepare.new.self) (view_of c.draw.new.self) c.prepare.ensures.same c.draw.ensures.frame.same;
+  keeps = drawn_keeps (view_of c.args.self.now) (view_of c.prepare.new.self) (view_of c.draw.new.self) c.prepare.ensures.reserved.same c.draw.ensures.frame.same;
   syncs = λ told m at.
       let v : KeeperView = view_of c.args.self.now in
       let v1 : KeeperView = view_of c.prepare.new.self in
@@ -127,16 +127,16 @@ returns-in-Err-clause-frame g c = record {
       let mid = g.D.Disk.view c.draw.new.disk in
       let there = g.D.Disk.view c.create.new.disk in
       let n = c.in_ok-number.number in
-      let at1 = reserved_represents v v1 old m c.prepare.ensures.same at in
-      let fresh = reserved_fresh n v v1 c.prepare.ensures.same (c.in_ok-number.ensures.fresh told m at1) in
-      let made = making n v v1 v2 old mid there c.prepare.ensures.same c.draw.ensures.frame.same c.draw.ensures.frame.past (c.draw.ensures.frame.syncs told) (c.create.ensures.calls told) in
+      let at1 = reserved_represents v v1 old m c.prepare.ensures.reserved.same at in
+      let fresh = reserved_fresh n v v1 c.prepare.ensures.reserved.same (c.in_ok-number.ensures.fresh told m at1) in
+      let made = making n v v1 v2 old mid there c.prepare.ensures.reserved.same c.draw.ensures.frame.same c.draw.ensures.frame.past (c.draw.ensures.frame.syncs told) (c.create.ensures.calls told) in
       fresh_one n v v2 old there fresh made;
   does =
       let n = c.in_ok-number.number in
       let mid = (g.D.Disk.view c.draw.new.disk) in
       let new = (g.D.Disk.view c.create.new.disk) in
       let why : c.in-Err.fault ≡ faults.Disk → StoreRose mid new = λ is. own_rose (IsOfLog n) _ mid new (λ file own. inl (n, own)) c.in-Err.ensures.cause (create_err c.in-Err.fault faults.Disk is) in
-      quiet_then (λ e. e) (does_then (λ none. absurd none) (does_reserved (λ none. none) (still (g.D.Disk.view c.args.disk.now)) c.prepare.ensures.same) (does_any (does_unfaulted c.in_ok-number.ensures.frame.does)))
+      quiet_then (λ e. e) (does_then (λ none. absurd none) (does_reserved (λ none. none) (still (g.D.Disk.view c.args.disk.now)) c.prepare.ensures.reserved.same) (does_any (does_unfaulted c.in_ok-number.ensures.frame.does)))
       (does_caused (λ all e. inl (create_cause (StoreRose mid new) c.in-Err.fault why c.in-Err.ensures.fault (sym c.create_refusal.ensures ∙ (let f : c.create_refusal.result ≡ DeviceFault = cc in f))))
       (does_same (λ none. none) c.create.ensures.cause.monotone refl refl refl (λ i. refl) refl refl));
 }
@@ -153,8 +153,8 @@ returns-in-Err-clause-stopped g c told m at =
     let new = g.D.Disk.view d2 in
     let n = c.in_ok-number.number in
     let fault = c.in-Err.fault in
-    let at1 = reserved_represents v v1 old m c.prepare.ensures.same at in
-    let its = ready v v1 v2 old mid m n at c.prepare.ensures.same c.draw.ensures.frame.same (c.in_ok-number.ensures.drawn told m at1) (c.draw.ensures.frame.beside told m at1) in
+    let at1 = reserved_represents v v1 old m c.prepare.ensures.reserved.same at in
+    let its = ready v v1 v2 old mid m n at c.prepare.ensures.reserved.same c.draw.ensures.frame.same (c.in_ok-number.ensures.drawn told m at1) (c.draw.ensures.frame.beside told m at1) in
     subst (λ (why : Refusal). Stopped v c.args.now c.args.conn (m.states c.args.conn) c.args.head m why v2 old new) (sym c.create_refusal.ensures)
     (not_made v v2 old mid new c.args.now c.args.conn c.args.head m n fault
     (record { reads_itself = g.met.D.Disk.reads_itself told d1; is_now = g.met.D.Disk.is_now told d1; only_now = g.met.D.Disk.only_now told d1 })
@@ -171,7 +171,7 @@ add_line-requires g c = record { timed = (c.requires.timed, c.requires.submit) }
 
 pub returns-in_err-add_line-clause-frame : goal.returns-in_err-add_line-clause-frame
 returns-in_err-add_line-clause-frame g c = record {
-  keeps = lined_keeps (view_of c.args.self.now) (view_of c.prepare.new.self) (view_of c.draw.new.self) (view_of c.add_line.new.self) c.prepare.ensures.same c.draw.ensures.frame.same c.add_line.ensures.frame.keeps c.add_line.ensures.frame.same;
+  keeps = lined_keeps (view_of c.args.self.now) (view_of c.prepare.new.self) (view_of c.draw.new.self) (view_of c.add_line.new.self) c.prepare.ensures.reserved.same c.draw.ensures.frame.same c.add_line.ensures.frame.keeps c.add_line.ensures.frame.same;
   syncs = λ told m at.
       let v : KeeperView = view_of c.args.self.now in
       let v1 : KeeperView = view_of c.prepare.new.self in
@@ -180,15 +180,15 @@ returns-in_err-add_line-clause-frame g c = record {
       let mid = g.D.Disk.view c.draw.new.disk in
       let there = g.D.Disk.view c.create.new.disk in
       let n = c.in_ok-number.number in
-      let at1 = reserved_represents v v1 old m c.prepare.ensures.same at in
-      let fresh = reserved_fresh n v v1 c.prepare.ensures.same (c.in_ok-number.ensures.fresh told m at1) in
-      let made = making n v v1 v2 old mid there c.prepare.ensures.same c.draw.ensures.frame.same c.draw.ensures.frame.past (c.draw.ensures.frame.syncs told) (c.create.ensures.calls told) in
+      let at1 = reserved_represents v v1 old m c.prepare.ensures.reserved.same at in
+      let fresh = reserved_fresh n v v1 c.prepare.ensures.reserved.same (c.in_ok-number.ensures.fresh told m at1) in
+      let made = making n v v1 v2 old mid there c.prepare.ensures.reserved.same c.draw.ensures.frame.same c.draw.ensures.frame.past (c.draw.ensures.frame.syncs told) (c.create.ensures.calls told) in
       let v3 : KeeperView = view_of c.add_line.new.self in
       let new = g.D.Disk.view c.add_line.new.disk in
       fresh_one n v v3 old new fresh (followed (λ i. i ≡ n) v v2 v3 old there new made (line_quiet (λ i. i ≡ n) v2 v3 there new c.add_line.ensures.frame.same (c.add_line.ensures.frame.syncs told)));
   does =
       quiet_then (λ e. same_err c.from_residual-in_err-add_line.result c.in_err-add_line.field-0.0 DeviceFault c.from_residual-in_err-add_line.ensures.1 e)
-      (does_then (λ none. absurd none) (does_then (λ none. absurd none) (does_reserved (λ none. none) (still (g.D.Disk.view c.args.disk.now)) c.prepare.ensures.same) (does_any (does_unfaulted c.in_ok-number.ensures.frame.does)))
+      (does_then (λ none. absurd none) (does_then (λ none. absurd none) (does_reserved (λ none. none) (still (g.D.Disk.view c.args.disk.now)) c.prepare.ensures.reserved.same) (does_any (does_unfaulted c.in_ok-number.ensures.frame.does)))
       (does_same (λ none. none) c.create.ensures.cause.monotone refl refl refl (λ i. refl) refl refl))
       c.in_err-add_line.ensures.frame.does;
 }
@@ -211,8 +211,8 @@ returns-in_err-add_line-clause-stopped g c told =
     let n = c.in_ok-number.number in
     let why = c.in_err-add_line.field-0.0 in
     if_err_as (λ (w : Refusal). (m : Machine) → Represents v old m → Stopped v c.args.now c.args.conn (m.states c.args.conn) c.args.head m w v3 old new) c.from_residual-in_err-add_line.result why c.from_residual-in_err-add_line.ensures.1 (λ m at.
-    let at1 = reserved_represents v v1 old m c.prepare.ensures.same at in
-    let its = ready v v1 v2 old mid m n at c.prepare.ensures.same c.draw.ensures.frame.same (c.in_ok-number.ensures.drawn told m at1) (c.draw.ensures.frame.beside told m at1) in
+    let at1 = reserved_represents v v1 old m c.prepare.ensures.reserved.same at in
+    let its = ready v v1 v2 old mid m n at c.prepare.ensures.reserved.same c.draw.ensures.frame.same (c.in_ok-number.ensures.drawn told m at1) (c.draw.ensures.frame.beside told m at1) in
     let made_is : Replays there.reads n (Some (made (head_text c.args.head))) = made_reads c.in-Ok-create.log n (head_text c.args.head) there laws2 c.in-Ok-create.ensures.number (c.in-Ok-create.ensures.represents told) in
     let it : MadeIt v v2 old there m n c.args.head = made_it v v2 old mid there m n c.args.head laws1 laws2 at its.keeps its.drawn its.represents its.beside (c.create.ensures.any_moment told) c.create.ensures.cause.monotone c.in-Ok-create.ensures.fits made_is in
     let line = line_of v2.kind (event.Accept c.args.now c.peer_of.result (Some n) c.args.head) in
@@ -225,24 +225,24 @@ returns-in_err-add_line-clause-stopped g c told =
 pub own-requires-clause-owners : goal.own-requires-clause-owners
 own-requires-clause-owners g c =
     let same : (view_of c.add_line.new.self).table ≡ (view_of c.prepare.new.self).table = c.add_line.ensures.frame.same.table ∙ ap (λ (x : KeeperView). x.table) c.draw.ensures.frame.same in
-    subst (λ (t : Table). 1 ≤ spare_owners t) (sym same) c.in-Ok.ensures.ok.0
+    subst (λ (t : Table). 1 ≤ spare_owners t) (sym same) c.in-Ok.ensures.reserved.ok.0
 
 pub own-requires-clause-logs : goal.own-requires-clause-logs
 own-requires-clause-logs g c =
     let same : (view_of c.add_line.new.self).logs ≡ (view_of c.prepare.new.self).logs = c.add_line.ensures.frame.same.logs ∙ ap (λ (x : KeeperView). x.logs) c.draw.ensures.frame.same in
-    subst (λ (t : OpenLogs). 1 ≤ spare_logs t) (sym same) c.in-Ok.ensures.ok.1
+    subst (λ (t : OpenLogs). 1 ≤ spare_logs t) (sym same) c.in-Ok.ensures.reserved.ok.1
 
 pub own-requires-clause-room : goal.own-requires-clause-room
 own-requires-clause-room g c =
     let v3 : KeeperView = view_of c.add_line.new.self in
     room_in_any (view_of c.args.self.now) v3 ((sessions_of v3).states c.args.conn) (Running (Some c.in_ok-number.number))
-    (lined_room (view_of c.args.self.now) (view_of c.prepare.new.self) (view_of c.draw.new.self) v3 c.prepare.ensures.same c.draw.ensures.frame.same c.add_line.ensures.frame.same) c.requires.room
+    (lined_room (view_of c.args.self.now) (view_of c.prepare.new.self) (view_of c.draw.new.self) v3 c.prepare.ensures.reserved.same c.draw.ensures.frame.same c.add_line.ensures.frame.same) c.requires.room
 
 pub returns-clause-frame : goal.returns-clause-frame
 returns-clause-frame g c = record {
   keeps =
       begun_keeps (view_of c.args.self.now) (view_of c.prepare.new.self) (view_of c.draw.new.self) (view_of c.add_line.new.self) (view_of c.own.new.self)
-      c.prepare.ensures.same c.draw.ensures.frame.same c.add_line.ensures.frame.keeps c.add_line.ensures.frame.same c.own.ensures.keeps c.own.ensures.owed;
+      c.prepare.ensures.reserved.same c.draw.ensures.frame.same c.add_line.ensures.frame.keeps c.add_line.ensures.frame.same c.own.ensures.keeps c.own.ensures.owed;
   syncs = λ told m at.
       let v : KeeperView = view_of c.args.self.now in
       let v1 : KeeperView = view_of c.prepare.new.self in
@@ -251,13 +251,13 @@ returns-clause-frame g c = record {
       let mid = g.D.Disk.view c.draw.new.disk in
       let there = g.D.Disk.view c.create.new.disk in
       let n = c.in_ok-number.number in
-      let at1 = reserved_represents v v1 old m c.prepare.ensures.same at in
-      let fresh = reserved_fresh n v v1 c.prepare.ensures.same (c.in_ok-number.ensures.fresh told m at1) in
-      let made = making n v v1 v2 old mid there c.prepare.ensures.same c.draw.ensures.frame.same c.draw.ensures.frame.past (c.draw.ensures.frame.syncs told) (c.create.ensures.calls told) in
+      let at1 = reserved_represents v v1 old m c.prepare.ensures.reserved.same at in
+      let fresh = reserved_fresh n v v1 c.prepare.ensures.reserved.same (c.in_ok-number.ensures.fresh told m at1) in
+      let made = making n v v1 v2 old mid there c.prepare.ensures.reserved.same c.draw.ensures.frame.same c.draw.ensures.frame.past (c.draw.ensures.frame.syncs told) (c.create.ensures.calls told) in
       let v3 : KeeperView = view_of c.add_line.new.self in
       let v4 : KeeperView = view_of c.own.new.self in
       let new = g.D.Disk.view c.add_line.new.disk in
-      let its = ready v v1 v2 old mid m n at c.prepare.ensures.same c.draw.ensures.frame.same (c.in_ok-number.ensures.drawn told m at1) (c.draw.ensures.frame.beside told m at1) in
+      let its = ready v v1 v2 old mid m n at c.prepare.ensures.reserved.same c.draw.ensures.frame.same (c.in_ok-number.ensures.drawn told m at1) (c.draw.ensures.frame.beside told m at1) in
       let free : (sessions_of v3).owner n ≡ None = ap (λ (t : Table). (sessions t).owner n) c.add_line.ensures.frame.same.table ∙ its.free in
       fresh_one n v v4 old new fresh
       (followed (λ i. i ≡ n) v v3 v4 old new new (followed (λ i. i ≡ n) v v2 v3 old there new made (line_quiet (λ i. i ≡ n) v2 v3 there new c.add_line.ensures.frame.same (c.add_line.ensures.frame.syncs told)))
@@ -270,7 +270,7 @@ returns-clause-frame g c = record {
       let at2 : (sessions_of v2).owner n ≡ None = sym c.owner.ensures ∙ none_of_some c.owner.result (sym c.is_some.ensures ∙ c.if-is_some.false) in
       let free : (sessions_of v3).owner n ≡ None = ap (λ (t : Table). (sessions t).owner n) c.add_line.ensures.frame.same.table ∙ at2 in
       does_then (λ e. absurd (cc))
-      (does_then (λ none. inr none) (does_then (λ none. absurd none) (does_then (λ none. absurd none) (does_reserved (λ none. none) (still (g.D.Disk.view c.args.disk.now)) c.prepare.ensures.same) (does_any (does_unfaulted c.in_ok-number.ensures.frame.does)))
+      (does_then (λ none. inr none) (does_then (λ none. absurd none) (does_then (λ none. absurd none) (does_reserved (λ none. none) (still (g.D.Disk.view c.args.disk.now)) c.prepare.ensures.reserved.same) (does_any (does_unfaulted c.in_ok-number.ensures.frame.does)))
       (does_same (λ none. none) c.create.ensures.cause.monotone refl refl refl (λ i. refl) refl refl))
       c.in_ok-add_line.ensures.frame.does)
       (owns_does free c.in-Ok-create.ensures.whole (c.own.ensures.owns free) (still (g.D.Disk.view c.add_line.new.disk)));
@@ -295,8 +295,8 @@ returns-clause-begun g c told m at =
     let laws2 : Laws there = record { reads_itself = g.met.D.Disk.reads_itself told d2; is_now = g.met.D.Disk.is_now told d2; only_now = g.met.D.Disk.only_now told d2 } in
     let laws3 : Laws new = record { reads_itself = g.met.D.Disk.reads_itself told d3; is_now = g.met.D.Disk.is_now told d3; only_now = g.met.D.Disk.only_now told d3 } in
     let n = c.in_ok-number.number in
-    let at1 = reserved_represents v v1 old m c.prepare.ensures.same at in
-    let its = ready v v1 v2 old mid m n at c.prepare.ensures.same c.draw.ensures.frame.same (c.in_ok-number.ensures.drawn told m at1) (c.draw.ensures.frame.beside told m at1) in
+    let at1 = reserved_represents v v1 old m c.prepare.ensures.reserved.same at in
+    let its = ready v v1 v2 old mid m n at c.prepare.ensures.reserved.same c.draw.ensures.frame.same (c.in_ok-number.ensures.drawn told m at1) (c.draw.ensures.frame.beside told m at1) in
     let made_is : Replays there.reads n (Some (made (head_text c.args.head))) = made_reads c.in-Ok-create.log n (head_text c.args.head) there laws2 c.in-Ok-create.ensures.number (c.in-Ok-create.ensures.represents told) in
     let it : MadeIt v v2 old there m n c.args.head = made_it v v2 old mid there m n c.args.head laws1 laws2 at its.keeps its.drawn its.represents its.beside (c.create.ensures.any_moment told) c.create.ensures.cause.monotone c.in-Ok-create.ensures.fits made_is in
     let line = line_of v2.kind (event.Accept c.args.now c.peer_of.result (Some n) c.args.head) in
@@ -304,8 +304,6 @@ returns-clause-begun g c told m at =
     let free : (sessions_of v3).owner n ≡ None = ap (λ (t : Table). (sessions t).owner n) c.add_line.ensures.frame.same.table ∙ its.free in
     begins v v2 v3 v4 old there new c.args.now c.args.conn c.args.head m n (record { log = c.in-Ok-create.log; mask = c.in-Ok.prepared.mask }) line laws2 laws3 at
     (ap is_running (at.states c.args.conn) ∙ c.requires.free) its.keeps
-    (lined_keeps v v1 v2 v3 c.prepare.ensures.same c.draw.ensures.frame.same c.add_line.ensures.frame.keeps c.add_line.ensures.frame.same) c.own.ensures.keeps its.drawn c.in_ok-number.ensures.within it
+    (lined_keeps v v1 v2 v3 c.prepare.ensures.reserved.same c.draw.ensures.frame.same c.add_line.ensures.frame.keeps c.add_line.ensures.frame.same) c.own.ensures.keeps its.drawn c.in_ok-number.ensures.within it
     (named_line v v2 c.args.now c.args.conn c.args.head n c.peer_of.result its.keeps c.peer_of.ensures) added.0 added.1 (c.add_line.ensures.frame.beside told (makes n (head_text c.args.head) m) it.represents)
     (c.in-Ok-create.ensures.represents told) c.in-Ok-create.ensures.number c.in-Ok.ensures.mask (c.own.ensures.owns free)
-
--- ---- What is synced

@@ -1,3 +1,4 @@
+use Rattle.lsv_keeper.specs.Jobs.{DoesRequest}
 use Rattle.std.proofs.Common.{◌≡◌, ◌∙◌, ap, subst, sym, refl, ◌∷◌, []}
 use Rattle.lsv_disk.specs.View.{DiskView}
 use Rattle.lsv_request.specs.declared.request.Request.TheVariants as request
@@ -10,7 +11,7 @@ use Rattle.lsv_keeper.specs.Syncing.{GoesOnWith, NoLog, Syncs}
 use Rattle.lsv_keeper.proofs.Refusing.{asks_stays, record_writes, same_waiting}
 use Rattle.lsv_keeper.proofs.Requests.{asks_alive}
 use Rattle.lsv_keeper.proofs.Syncing.{nothing, of_none}
-use Rattle.lsv_keeper.proofs.Causes.{does_as, does_free, does_none, quiet_told, told_some}
+use Rattle.lsv_keeper.proofs.Causes.{does_free, does_none, quiet_told}
 use Rattle.lsv_keeper.specs.Causes.{Does, TellsFault}
 use Rattle.lsv_request.specs.declared.refusal.Refusal.TheVariants.{DeviceFault, OutOfMemory}
 use Rattle.lsv_keeper.specs.declared.told.Told.TheVariants as told
@@ -50,42 +51,31 @@ returns-then-is_err g c = record {
       let old : DiskView = g.D.Disk.view c.args.disk.now in
       let new : DiskView = g.D.Disk.view c.want_memory.new.disk in
       let same = same_waiting v c.reserve.new.self.items c.reserve.ensures.items in
+      let d = c.want_memory.ensures.done now in
       let unsynced : (told : g.D.Disk.tells) (m : Machine) → Represents v old m → Syncs NoLog v v' old new = (λ told m at. subst (λ (w : KeeperView). Syncs NoLog w v' old new) same
-      (c.want_memory.ensures.frame.syncs told m (subst (λ (w : KeeperView). Represents w old m) (sym same) at))) in
+      (d.frame.syncs told m (subst (λ (w : KeeperView). Represents w old m) (sym same) at))) in
       record {
-        keeps = subst (λ (w : KeeperView). Keeps w v') same c.want_memory.ensures.frame.keeps;
-        told = c.want_memory.ensures.told;
+        keeps = subst (λ (w : KeeperView). Keeps w v') same d.frame.keeps;
+        told = d.told;
         row = λ told m job at is asks.
             subst (λ (w : KeeperView). RowGives w now job c.want_memory.result m v' old new) same
-            (c.want_memory.ensures.row told m job now (subst (λ (w : KeeperView). Represents w old m) (sym same) at) is
-            (asks_alive (m.states c.args.conn) job.body (request.Record c.args.r) asks) (asks_stays (m.states c.args.conn) job.body (request.Record c.args.r) asks));
+            (d.row told m job (subst (λ (w : KeeperView). Represents w old m) (sym same) at) is
+            (asks_alive (m.states c.args.conn) job.body (request.Record c.args.r) asks, asks_stays (m.states c.args.conn) job.body (request.Record c.args.r) asks));
         syncs = λ told m at. of_none (GoesOnWith (request.Record c.args.r)) v v' old new (unsynced told m at);
         spared = λ told m at. spares_none v v' old new m at (unsynced told m at);
         does = does_free (subst (λ (w : KeeperView). Does (c.args.conn ∷ []) ⊥ (TellsFault c.want_memory.result) w v' old new) same
-            (quiet_told (λ e. let f : told.Refused OutOfMemory ≡ told.Refused DeviceFault = sym c.want_memory.ensures.is ∙ e in cc) c.want_memory.ensures.frame.does));
+            (quiet_told (λ e. let f : told.Refused OutOfMemory ≡ told.Refused DeviceFault = sym c.want_memory.ensures.told ∙ e in cc) d.frame.does));
       };
 }
 
 pub returns : goal.returns
 returns g c = record {
   done = λ now.
-      let v : KeeperView = view_of c.args.self.now in
       let v' : KeeperView = view_of c.take_record.new.self in
       let old : DiskView = g.D.Disk.view c.args.disk.now in
       let new : DiskView = g.D.Disk.view c.take_record.new.disk in
-      let same = same_waiting v c.reserve.new.self.items c.reserve.ensures.items in
-      let unsynced : (told : g.D.Disk.tells) (m : Machine) → Represents v old m → Syncs NoLog v v' old new = (λ told m at. subst (λ (w : KeeperView). Syncs NoLog w v' old new) same
-      (c.take_record.ensures.syncs told m (subst (λ (w : KeeperView). Represents w old m) (sym same) at) (ap log_of (at.states c.args.conn ∙ sym c.requires.state) ∙ sym c.log_of.ensures ∙ c.in-Some.is))) in
-      record {
-        keeps = subst (λ (w : KeeperView). Keeps w v') same c.take_record.ensures.keeps;
-        told = c.told_of.ensures.told;
-        row = λ told m job at is asks.
-            subst (λ (t : Told). RowGives v now job t m v' old new) (sym c.told_of.ensures.is)
-            (subst (λ (w : KeeperView). RowGives w now job (told_of c.take_record.result) m v' old new) same
-            (c.take_record.ensures.row told m job now (subst (λ (w : KeeperView). Represents w old m) (sym same) at) is (ap log_of (at.states c.args.conn ∙ sym c.requires.state) ∙ sym c.log_of.ensures ∙ c.in-Some.is) asks));
-        syncs = λ told m at. of_none (GoesOnWith (request.Record c.args.r)) v v' old new (unsynced told m at);
-        spared = λ told m at. spares_none v v' old new m at (unsynced told m at);
-        does = does_free (subst (λ (w : KeeperView). Does (c.args.conn ∷ []) ⊥ (TellsFault c.told_of.result) w v' old new) same
-            (does_as (λ e. told_some c.take_record.result (sym c.told_of.ensures.is ∙ e)) (c.take_record.ensures.does (ap log_of (sym c.requires.state) ∙ sym c.log_of.ensures ∙ c.in-Some.is))));
-      };
+      let is : c.told_of.result ≡ told_of c.take_record.result = c.told_of.ensures.is in
+      subst (λ (t : Told). DoesRequest g.D.Disk.tells now c.args.conn (request.Record c.args.r) t (view_of c.args.self.now) v' old new) (sym is)
+      (subst (λ (w : KeeperView). DoesRequest g.D.Disk.tells now c.args.conn (request.Record c.args.r) (told_of c.take_record.result) w v' old new) (same_waiting (view_of c.args.self.now) c.reserve.new.self.items c.reserve.ensures.items)
+      ((c.take_record.ensures now).done (ap log_of (sym c.requires.state) ∙ sym c.log_of.ensures ∙ c.in-Some.is)));
 }

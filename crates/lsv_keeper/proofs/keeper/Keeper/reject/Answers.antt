@@ -33,22 +33,25 @@ tell-requires-clause-room g c = c.requires.room
 pub returns : goal.returns
 returns g c = record {
   done =
+      let d = c.tell.ensures c.args.now (request.Reject c.args.report) in
       let v' = view_of c.tell.new.self in
       let old = g.D.Disk.view c.args.disk.now in
       let new = g.D.Disk.view c.tell.new.disk in
       record {
-        keeps = c.tell.ensures.frame.keeps;
-        told = c.tell.ensures.told;
+        keeps = d.frame.keeps;
+        told = d.told;
         row = λ told m job at e a.
             let v : KeeperView = view_of c.args.self.now in
             let its : c.unless_running.result ≡ unless_running (m.states c.args.conn) next.Ends =
             c.unless_running.ensures ∙ ap (λ (s : ConnState). unless_running s next.Ends) (c.requires.state ∙ sym (at.states c.args.conn)) in
-            c.tell.ensures.row told m job c.args.now (request.Reject c.args.report) at e a
-            (subst (λ (x : Next). IsEventOf (settings_of v) c.args.now c.args.conn (m.states c.args.conn) (request.Reject c.args.report) (line_of v.kind (event.Reject c.args.now c.peer_of.result c.args.report.reason (record { submit = c.args.report.time; info = c.args.report.info }))) x m) (sym its)
-            (subst (λ (p : Peer). IsEventOf (settings_of v) c.args.now c.args.conn (m.states c.args.conn) (request.Reject c.args.report) (line_of v.kind (event.Reject c.args.now p c.args.report.reason (record { submit = c.args.report.time; info = c.args.report.info }))) (unless_running (m.states c.args.conn) next.Ends) m) (sym c.peer_of.ensures)
-            (reject_event v c.args.now c.args.conn (m.states c.args.conn) c.args.report m)));
-        syncs = λ told m at. of_none (GoesOnWith (request.Reject c.args.report)) (view_of c.args.self.now) v' old new (c.tell.ensures.frame.syncs told m at);
-        spared = λ told m at. spares_none (view_of c.args.self.now) v' old new m at (c.tell.ensures.frame.syncs told m at);
-        does = does_needs (λ u. refl) c.tell.ensures.frame.does;
+            d.row told m job at e (
+              a,
+              subst (λ (x : Next). IsEventOf (settings_of v) c.args.now c.args.conn (m.states c.args.conn) (request.Reject c.args.report) (line_of v.kind (event.Reject c.args.now c.peer_of.result c.args.report.reason (record { submit = c.args.report.time; info = c.args.report.info }))) x m) (sym its)
+                  (subst (λ (p : Peer). IsEventOf (settings_of v) c.args.now c.args.conn (m.states c.args.conn) (request.Reject c.args.report) (line_of v.kind (event.Reject c.args.now p c.args.report.reason (record { submit = c.args.report.time; info = c.args.report.info }))) (unless_running (m.states c.args.conn) next.Ends) m) (sym c.peer_of.ensures)
+                  (reject_event v c.args.now c.args.conn (m.states c.args.conn) c.args.report m)),
+            );
+        syncs = λ told m at. of_none (GoesOnWith (request.Reject c.args.report)) (view_of c.args.self.now) v' old new (d.frame.syncs told m at);
+        spared = λ told m at. spares_none (view_of c.args.self.now) v' old new m at (d.frame.syncs told m at);
+        does = does_needs (λ u. refl) d.frame.does;
       };
 }

@@ -19,32 +19,24 @@ let_go-requires g c = record {
   room = let x = room_one ((sessions_of (view_of c.args.self.now)).states c.args.conn) Dead in let y = c.requires.room in omega arith;
 }
 
-pub returns-in_default-clause-keeps : goal.returns-in_default-clause-keeps
-returns-in_default-clause-keeps g c = keeps_same (view_of c.args.self.now) c.take.new.self
+pub returns-in_default : goal.returns-in_default
+returns-in_default g c = record {
+  keeps = keeps_same (view_of c.args.self.now) c.take.new.self;
+  left = λ told before m (left, moved) at state.
+      absurd (c.in_default.not-Some left (c.take.ensures.taken ∙ moved_there before (view_of c.args.self.now) c.args.log left moved));
+  syncs = λ told before m (left, moved) at state.
+      absurd (c.in_default.not-Some left (c.take.ensures.taken ∙ moved_there before (view_of c.args.self.now) c.args.log left moved));
+  does = λ is.
+      none_taken c.args.log c.take.new.self (sym c.take.ensures.taken ∙ none_of c.take.result c.in_default.not-Some) c.take.ensures.rest (does_none (λ none. none));
+}
 
-pub returns-clause-keeps : goal.returns-clause-keeps
-returns-clause-keeps g c = keeps_from (view_of c.args.self.now) (view_of c.let_go.new.self) c.take.new.self c.let_go.ensures.keeps
-
-pub returns-in_default-clause-left : goal.returns-in_default-clause-left
-returns-in_default-clause-left g c told before left m moved at state =
-    absurd (c.in_default.not-Some left (c.take.ensures.taken ∙ moved_there before (view_of c.args.self.now) c.args.log left moved))
-
-pub returns-clause-left : goal.returns-clause-left
-returns-clause-left g c told before left m moved at state =
-    c.let_go.ensures.left told before m (moved_out before (view_of c.args.self.now) c.take.new.self c.args.log left c.in-Some.its moved c.in-Some.ensures.taken c.take.ensures.rest) at state
-
-pub returns-in_default-clause-syncs : goal.returns-in_default-clause-syncs
-returns-in_default-clause-syncs g c told before left m moved at state =
-    absurd (c.in_default.not-Some left (c.take.ensures.taken ∙ moved_there before (view_of c.args.self.now) c.args.log left moved))
-
-pub returns-clause-syncs : goal.returns-clause-syncs
-returns-clause-syncs g c told before left m moved at state =
-    c.let_go.ensures.syncs told before m (moved_out before (view_of c.args.self.now) c.take.new.self c.args.log left c.in-Some.its moved c.in-Some.ensures.taken c.take.ensures.rest) at state
-
--- ---- Over every disk
-
-pub returns-in_default-clause-does : goal.returns-in_default-clause-does
-returns-in_default-clause-does g c is = none_taken c.args.log c.take.new.self (sym c.take.ensures.taken ∙ none_of c.take.result c.in_default.not-Some) c.take.ensures.rest (does_none (λ none. none))
-
-pub returns-clause-does : goal.returns-clause-does
-returns-clause-does g c is = taken_then c.args.log c.take.new.self (λ all none. absurd none) (at_each (open_logs c.take.new.self) (with_open c.args.log None (open_logs c.args.self.now.logs)) c.take.ensures.rest) (c.let_go.ensures.does is)
+pub returns : goal.returns
+returns g c = record {
+  keeps = keeps_from (view_of c.args.self.now) (view_of c.let_go.new.self) c.take.new.self c.let_go.ensures.gone.keeps;
+  left = λ told before m (left, moved) at state.
+      c.let_go.ensures.gone.left told before m (moved_out before (view_of c.args.self.now) c.take.new.self c.args.log left c.in-Some.its moved c.in-Some.ensures.taken c.take.ensures.rest) at state;
+  syncs = λ told before m (left, moved) at state.
+      c.let_go.ensures.gone.syncs told before m (moved_out before (view_of c.args.self.now) c.take.new.self c.args.log left c.in-Some.its moved c.in-Some.ensures.taken c.take.ensures.rest) at state;
+  does = λ is.
+      taken_then c.args.log c.take.new.self (λ all none. absurd none) (at_each (open_logs c.take.new.self) (with_open c.args.log None (open_logs c.args.self.now.logs)) c.take.ensures.rest) (c.let_go.ensures.gone.does is);
+}

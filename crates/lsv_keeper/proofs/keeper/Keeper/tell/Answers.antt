@@ -24,52 +24,54 @@ enter_state-requires-clause-stands g c told = let s = c.requires.stands told in 
 pub enter_state-requires-clause-room : goal.enter_state-requires-clause-room
 enter_state-requires-clause-room g c = room_after (view_of c.args.self.now) (view_of c.add_line.new.self) ((sessions_of (view_of c.add_line.new.self)).states c.args.conn) Dead c.add_line.ensures.frame.same c.requires.room
 
-pub returns-in-Err-clause-frame : goal.returns-in-Err-clause-frame
-returns-in-Err-clause-frame g c = record {
-  keeps = keeps_left (view_of c.args.self.now) (view_of c.add_line.new.self) (view_of c.enter_state.new.self) c.add_line.ensures.frame.keeps c.add_line.ensures.frame.same c.enter_state.ensures.frame.keeps c.enter_state.ensures.enters.shrinks;
-  syncs = λ told m at.
+pub returns-in-Err : goal.returns-in-Err
+returns-in-Err g c now what = record {
+  frame = record {
+    keeps = keeps_left (view_of c.args.self.now) (view_of c.add_line.new.self) (view_of c.enter_state.new.self) c.add_line.ensures.frame.keeps c.add_line.ensures.frame.same c.enter_state.ensures.frame.keeps c.enter_state.ensures.enters.shrinks;
+    syncs = λ told m at.
+        let v : KeeperView = view_of c.args.self.now in
+        let v1 : KeeperView = view_of c.add_line.new.self in
+        let d0 = g.D.Disk.view c.args.disk.now in
+        let d1 = g.D.Disk.view c.add_line.new.disk in
+        let line = line_quiet NoLog v v1 d0 d1 c.add_line.ensures.frame.same (c.add_line.ensures.frame.syncs told) in
+        followed NoLog v v1 (view_of c.enter_state.new.self) d0 d1 (g.D.Disk.view c.enter_state.new.disk) line (c.enter_state.ensures.frame.syncs told m (c.in-Err.ensures.refused told m at).1);
+    does = then_quiet (λ e. ap (λ (w : Refusal). err w) (refused_is c.in-Err.why e)) c.in-Err.ensures.frame.does c.enter_state.ensures.frame.does;
+  };
+  told = tt;
+  row = λ told m job at e (a, is).
       let v : KeeperView = view_of c.args.self.now in
-      let v1 : KeeperView = view_of c.add_line.new.self in
-      let d0 = g.D.Disk.view c.args.disk.now in
-      let d1 = g.D.Disk.view c.add_line.new.disk in
-      let line = line_quiet NoLog v v1 d0 d1 c.add_line.ensures.frame.same (c.add_line.ensures.frame.syncs told) in
-      followed NoLog v v1 (view_of c.enter_state.new.self) d0 d1 (g.D.Disk.view c.enter_state.new.disk) line (c.enter_state.ensures.frame.syncs told m (c.in-Err.ensures.refused told m at).1);
-  does = then_quiet (λ e. ap (λ (w : Refusal). err w) (refused_is c.in-Err.why e)) c.in-Err.ensures.frame.does c.enter_state.ensures.frame.does;
+      let d0 = c.args.disk.now in
+      let d1 = c.add_line.new.disk in
+      let refused = c.in-Err.ensures.refused told m at in
+      refused_at v (view_of c.add_line.new.self) (view_of c.enter_state.new.self) (g.D.Disk.view d0) (g.D.Disk.view d1) (g.D.Disk.view c.enter_state.new.disk) c.args.conn m (line_of v.kind c.args.event.now) c.args.next c.in-Err.why
+      (record { reads_itself = g.met.D.Disk.reads_itself told d0; is_now = g.met.D.Disk.is_now told d0; only_now = g.met.D.Disk.only_now told d0 })
+      (record { reads_itself = g.met.D.Disk.reads_itself told d1; is_now = g.met.D.Disk.is_now told d1; only_now = g.met.D.Disk.only_now told d1 })
+      refused.1 c.add_line.ensures.frame.keeps refused.0 (c.add_line.ensures.frame.beside told m at) (c.enter_state.ensures.left told m refused.1) job now what e a is;
 }
 
-pub returns-in-Err-clause-row : goal.returns-in-Err-clause-row
-returns-in-Err-clause-row g c told m job now what at e a is =
-    let v : KeeperView = view_of c.args.self.now in
-    let d0 = c.args.disk.now in
-    let d1 = c.add_line.new.disk in
-    let refused = c.in-Err.ensures.refused told m at in
-    refused_at v (view_of c.add_line.new.self) (view_of c.enter_state.new.self) (g.D.Disk.view d0) (g.D.Disk.view d1) (g.D.Disk.view c.enter_state.new.disk) c.args.conn m (line_of v.kind c.args.event.now) c.args.next c.in-Err.why
-    (record { reads_itself = g.met.D.Disk.reads_itself told d0; is_now = g.met.D.Disk.is_now told d0; only_now = g.met.D.Disk.only_now told d0 })
-    (record { reads_itself = g.met.D.Disk.reads_itself told d1; is_now = g.met.D.Disk.is_now told d1; only_now = g.met.D.Disk.only_now told d1 })
-    refused.1 c.add_line.ensures.frame.keeps refused.0 (c.add_line.ensures.frame.beside told m at) (c.enter_state.ensures.left told m refused.1) job now what e a is
-
-pub returns-in-Stays-clause-frame : goal.returns-in-Stays-clause-frame
-returns-in-Stays-clause-frame g c = record {
-  keeps = c.add_line.ensures.frame.keeps;
-  syncs = λ told m at.
+pub returns-in-Stays : goal.returns-in-Stays
+returns-in-Stays g c now what = record {
+  frame = record {
+    keeps = c.add_line.ensures.frame.keeps;
+    syncs = λ told m at.
+        let v : KeeperView = view_of c.args.self.now in
+        let v1 : KeeperView = view_of c.add_line.new.self in
+        let d0 = g.D.Disk.view c.args.disk.now in
+        let d1 = g.D.Disk.view c.add_line.new.disk in
+        let line = line_quiet NoLog v v1 d0 d1 c.add_line.ensures.frame.same (c.add_line.ensures.frame.syncs told) in
+        line;
+    does = does_as (λ e. absurd (cc)) c.in_default.ensures.frame.does;
+  };
+  told = tt;
+  row = λ told m job at e (a, is).
       let v : KeeperView = view_of c.args.self.now in
-      let v1 : KeeperView = view_of c.add_line.new.self in
-      let d0 = g.D.Disk.view c.args.disk.now in
-      let d1 = g.D.Disk.view c.add_line.new.disk in
-      let line = line_quiet NoLog v v1 d0 d1 c.add_line.ensures.frame.same (c.add_line.ensures.frame.syncs told) in
-      line;
-  does = does_as (λ e. absurd (cc)) c.in_default.ensures.frame.does;
+      let d0 = c.args.disk.now in
+      let added = c.in_default.ensures.added told m at in
+      stays_at v (view_of c.add_line.new.self) (g.D.Disk.view d0) (g.D.Disk.view c.add_line.new.disk) c.args.conn m (line_of v.kind c.args.event.now)
+      (record { reads_itself = g.met.D.Disk.reads_itself told d0; is_now = g.met.D.Disk.is_now told d0; only_now = g.met.D.Disk.only_now told d0 })
+      (c.add_line.ensures.frame.beside told m at) added.0 added.1 job now what e a
+      (subst (λ (x : Next). IsEventOf (settings_of v) now c.args.conn (m.states c.args.conn) what (line_of v.kind c.args.event.now) x m) c.in-Stays.is is);
 }
-
-pub returns-in-Stays-clause-row : goal.returns-in-Stays-clause-row
-returns-in-Stays-clause-row g c told m job now what at e a is =
-    let v : KeeperView = view_of c.args.self.now in
-    let d0 = c.args.disk.now in
-    let added = c.in_default.ensures.added told m at in
-    stays_at v (view_of c.add_line.new.self) (g.D.Disk.view d0) (g.D.Disk.view c.add_line.new.disk) c.args.conn m (line_of v.kind c.args.event.now)
-    (record { reads_itself = g.met.D.Disk.reads_itself told d0; is_now = g.met.D.Disk.is_now told d0; only_now = g.met.D.Disk.only_now told d0 })
-    (c.add_line.ensures.frame.beside told m at) added.0 added.1 job now what e a
-    (subst (λ (x : Next). IsEventOf (settings_of v) now c.args.conn (m.states c.args.conn) what (line_of v.kind c.args.event.now) x m) c.in-Stays.is is)
 
 pub enter_state-requires-in-Enters-clause-stands : goal.enter_state-requires-in-Enters-clause-stands
 enter_state-requires-in-Enters-clause-stands g c told = let s = c.requires.stands told in (adds_line c.args.conn (line_of (view_of c.args.self.now).kind c.args.event.now) s.0, (c.in_default.ensures.added told s.0 s.1).1)
@@ -80,29 +82,30 @@ enter_state-requires-in-Enters-clause-writes_none g c = subst EntersNoLog c.in-E
 pub enter_state-requires-in-Enters-clause-room : goal.enter_state-requires-in-Enters-clause-room
 enter_state-requires-in-Enters-clause-room g c = room_after (view_of c.args.self.now) (view_of c.add_line.new.self) ((sessions_of (view_of c.add_line.new.self)).states c.args.conn) c.in-Enters.state c.add_line.ensures.frame.same c.requires.room
 
-pub returns-in-Enters-clause-frame : goal.returns-in-Enters-clause-frame
-returns-in-Enters-clause-frame g c = record {
-  keeps = keeps_left (view_of c.args.self.now) (view_of c.add_line.new.self) (view_of c.enter_state-in-Enters.new.self) c.add_line.ensures.frame.keeps c.add_line.ensures.frame.same c.enter_state-in-Enters.ensures.frame.keeps c.enter_state-in-Enters.ensures.enters.shrinks;
-  syncs = λ told m at.
+pub returns-in-Enters : goal.returns-in-Enters
+returns-in-Enters g c now what = record {
+  frame = record {
+    keeps = keeps_left (view_of c.args.self.now) (view_of c.add_line.new.self) (view_of c.enter_state-in-Enters.new.self) c.add_line.ensures.frame.keeps c.add_line.ensures.frame.same c.enter_state-in-Enters.ensures.frame.keeps c.enter_state-in-Enters.ensures.enters.shrinks;
+    syncs = λ told m at.
+        let v : KeeperView = view_of c.args.self.now in
+        let v1 : KeeperView = view_of c.add_line.new.self in
+        let d0 = g.D.Disk.view c.args.disk.now in
+        let d1 = g.D.Disk.view c.add_line.new.disk in
+        let line = line_quiet NoLog v v1 d0 d1 c.add_line.ensures.frame.same (c.add_line.ensures.frame.syncs told) in
+        followed NoLog v v1 (view_of c.enter_state-in-Enters.new.self) d0 d1 (g.D.Disk.view c.enter_state-in-Enters.new.disk) line (c.enter_state-in-Enters.ensures.frame.syncs told (adds_line c.args.conn (line_of v.kind c.args.event.now) m) (c.in_default.ensures.added told m at).1);
+    does = then_quiet (λ e. absurd (cc)) c.in_default.ensures.frame.does c.enter_state-in-Enters.ensures.frame.does;
+  };
+  told = tt;
+  row = λ told m job at e (a, is).
       let v : KeeperView = view_of c.args.self.now in
-      let v1 : KeeperView = view_of c.add_line.new.self in
-      let d0 = g.D.Disk.view c.args.disk.now in
-      let d1 = g.D.Disk.view c.add_line.new.disk in
-      let line = line_quiet NoLog v v1 d0 d1 c.add_line.ensures.frame.same (c.add_line.ensures.frame.syncs told) in
-      followed NoLog v v1 (view_of c.enter_state-in-Enters.new.self) d0 d1 (g.D.Disk.view c.enter_state-in-Enters.new.disk) line (c.enter_state-in-Enters.ensures.frame.syncs told (adds_line c.args.conn (line_of v.kind c.args.event.now) m) (c.in_default.ensures.added told m at).1);
-  does = then_quiet (λ e. absurd (cc)) c.in_default.ensures.frame.does c.enter_state-in-Enters.ensures.frame.does;
+      let d0 = c.args.disk.now in
+      let added = c.in_default.ensures.added told m at in
+      let line = line_of v.kind c.args.event.now in
+      enters_at v (view_of c.add_line.new.self) (view_of c.enter_state-in-Enters.new.self) (g.D.Disk.view d0) (g.D.Disk.view c.add_line.new.disk) (g.D.Disk.view c.enter_state-in-Enters.new.disk) c.args.conn m line c.in-Enters.state
+      (record { reads_itself = g.met.D.Disk.reads_itself told d0; is_now = g.met.D.Disk.is_now told d0; only_now = g.met.D.Disk.only_now told d0 })
+      c.add_line.ensures.frame.keeps (c.add_line.ensures.frame.beside told m at) added.0 (c.enter_state-in-Enters.ensures.left told (adds_line c.args.conn line m) added.1) job now what e a
+      (subst (λ (x : Next). IsEventOf (settings_of v) now c.args.conn (m.states c.args.conn) what line x m) c.in-Enters.is is);
 }
-
-pub returns-in-Enters-clause-row : goal.returns-in-Enters-clause-row
-returns-in-Enters-clause-row g c told m job now what at e a is =
-    let v : KeeperView = view_of c.args.self.now in
-    let d0 = c.args.disk.now in
-    let added = c.in_default.ensures.added told m at in
-    let line = line_of v.kind c.args.event.now in
-    enters_at v (view_of c.add_line.new.self) (view_of c.enter_state-in-Enters.new.self) (g.D.Disk.view d0) (g.D.Disk.view c.add_line.new.disk) (g.D.Disk.view c.enter_state-in-Enters.new.disk) c.args.conn m line c.in-Enters.state
-    (record { reads_itself = g.met.D.Disk.reads_itself told d0; is_now = g.met.D.Disk.is_now told d0; only_now = g.met.D.Disk.only_now told d0 })
-    c.add_line.ensures.frame.keeps (c.add_line.ensures.frame.beside told m at) added.0 (c.enter_state-in-Enters.ensures.left told (adds_line c.args.conn line m) added.1) job now what e a
-    (subst (λ (x : Next). IsEventOf (settings_of v) now c.args.conn (m.states c.args.conn) what line x m) c.in-Enters.is is)
 
 pub enter_state-requires-in-Ends-clause-stands : goal.enter_state-requires-in-Ends-clause-stands
 enter_state-requires-in-Ends-clause-stands g c told = let s = c.requires.stands told in (adds_line c.args.conn (line_of (view_of c.args.self.now).kind c.args.event.now) s.0, (c.in_default.ensures.added told s.0 s.1).1)
@@ -110,26 +113,27 @@ enter_state-requires-in-Ends-clause-stands g c told = let s = c.requires.stands 
 pub enter_state-requires-in-Ends-clause-room : goal.enter_state-requires-in-Ends-clause-room
 enter_state-requires-in-Ends-clause-room g c = room_after (view_of c.args.self.now) (view_of c.add_line.new.self) ((sessions_of (view_of c.add_line.new.self)).states c.args.conn) Dead c.add_line.ensures.frame.same c.requires.room
 
-pub returns-in-Ends-clause-frame : goal.returns-in-Ends-clause-frame
-returns-in-Ends-clause-frame g c = record {
-  keeps = keeps_left (view_of c.args.self.now) (view_of c.add_line.new.self) (view_of c.enter_state-in-Ends.new.self) c.add_line.ensures.frame.keeps c.add_line.ensures.frame.same c.enter_state-in-Ends.ensures.frame.keeps c.enter_state-in-Ends.ensures.enters.shrinks;
-  syncs = λ told m at.
+pub returns-in-Ends : goal.returns-in-Ends
+returns-in-Ends g c now what = record {
+  frame = record {
+    keeps = keeps_left (view_of c.args.self.now) (view_of c.add_line.new.self) (view_of c.enter_state-in-Ends.new.self) c.add_line.ensures.frame.keeps c.add_line.ensures.frame.same c.enter_state-in-Ends.ensures.frame.keeps c.enter_state-in-Ends.ensures.enters.shrinks;
+    syncs = λ told m at.
+        let v : KeeperView = view_of c.args.self.now in
+        let v1 : KeeperView = view_of c.add_line.new.self in
+        let d0 = g.D.Disk.view c.args.disk.now in
+        let d1 = g.D.Disk.view c.add_line.new.disk in
+        let line = line_quiet NoLog v v1 d0 d1 c.add_line.ensures.frame.same (c.add_line.ensures.frame.syncs told) in
+        followed NoLog v v1 (view_of c.enter_state-in-Ends.new.self) d0 d1 (g.D.Disk.view c.enter_state-in-Ends.new.disk) line (c.enter_state-in-Ends.ensures.frame.syncs told (adds_line c.args.conn (line_of v.kind c.args.event.now) m) (c.in_default.ensures.added told m at).1);
+    does = then_quiet (λ e. absurd (cc)) c.in_default.ensures.frame.does c.enter_state-in-Ends.ensures.frame.does;
+  };
+  told = tt;
+  row = λ told m job at e (a, is).
       let v : KeeperView = view_of c.args.self.now in
-      let v1 : KeeperView = view_of c.add_line.new.self in
-      let d0 = g.D.Disk.view c.args.disk.now in
-      let d1 = g.D.Disk.view c.add_line.new.disk in
-      let line = line_quiet NoLog v v1 d0 d1 c.add_line.ensures.frame.same (c.add_line.ensures.frame.syncs told) in
-      followed NoLog v v1 (view_of c.enter_state-in-Ends.new.self) d0 d1 (g.D.Disk.view c.enter_state-in-Ends.new.disk) line (c.enter_state-in-Ends.ensures.frame.syncs told (adds_line c.args.conn (line_of v.kind c.args.event.now) m) (c.in_default.ensures.added told m at).1);
-  does = then_quiet (λ e. absurd (cc)) c.in_default.ensures.frame.does c.enter_state-in-Ends.ensures.frame.does;
+      let d0 = c.args.disk.now in
+      let added = c.in_default.ensures.added told m at in
+      let line = line_of v.kind c.args.event.now in
+      ends_at v (view_of c.add_line.new.self) (view_of c.enter_state-in-Ends.new.self) (g.D.Disk.view d0) (g.D.Disk.view c.add_line.new.disk) (g.D.Disk.view c.enter_state-in-Ends.new.disk) c.args.conn m line
+      (record { reads_itself = g.met.D.Disk.reads_itself told d0; is_now = g.met.D.Disk.is_now told d0; only_now = g.met.D.Disk.only_now told d0 })
+      c.add_line.ensures.frame.keeps (c.add_line.ensures.frame.beside told m at) added.0 (c.enter_state-in-Ends.ensures.left told (adds_line c.args.conn line m) added.1) job now what e a
+      (subst (λ (x : Next). IsEventOf (settings_of v) now c.args.conn (m.states c.args.conn) what line x m) c.in-Ends.is is);
 }
-
-pub returns-in-Ends-clause-row : goal.returns-in-Ends-clause-row
-returns-in-Ends-clause-row g c told m job now what at e a is =
-    let v : KeeperView = view_of c.args.self.now in
-    let d0 = c.args.disk.now in
-    let added = c.in_default.ensures.added told m at in
-    let line = line_of v.kind c.args.event.now in
-    ends_at v (view_of c.add_line.new.self) (view_of c.enter_state-in-Ends.new.self) (g.D.Disk.view d0) (g.D.Disk.view c.add_line.new.disk) (g.D.Disk.view c.enter_state-in-Ends.new.disk) c.args.conn m line
-    (record { reads_itself = g.met.D.Disk.reads_itself told d0; is_now = g.met.D.Disk.is_now told d0; only_now = g.met.D.Disk.only_now told d0 })
-    c.add_line.ensures.frame.keeps (c.add_line.ensures.frame.beside told m at) added.0 (c.enter_state-in-Ends.ensures.left told (adds_line c.args.conn line m) added.1) job now what e a
-    (subst (λ (x : Next). IsEventOf (settings_of v) now c.args.conn (m.states c.args.conn) what line x m) c.in-Ends.is is)

@@ -19,14 +19,15 @@ enter_state-requires g c = record {
   room = let x = room_one ((sessions_of (view_of c.args.self.now)).states c.args.conn) Dead in let y = c.requires.room in omega arith;
 }
 
-pub returns-clause-row : goal.returns-clause-row
-returns-clause-row g c told m job now at is alive stays =
-    let old : DiskView = g.D.Disk.view c.args.disk.now in
-    let new : DiskView = g.D.Disk.view c.enter_state.new.disk in
-    let laws : Laws old = record { reads_itself = g.met.D.Disk.reads_itself told c.args.disk.now; is_now = g.met.D.Disk.is_now told c.args.disk.now; only_now = g.met.D.Disk.only_now told c.args.disk.now } in
-    wanting_row (view_of c.args.self.now) (view_of c.enter_state.new.self) now job m old new laws at
-    (subst (λ (k : ConnId). is_dead (m.states k) ≡ false) (sym is) alive) stays
-    (subst (λ (k : ConnId). Left k Dead (view_of c.args.self.now) m (view_of c.enter_state.new.self) old new) (sym is) (c.enter_state.ensures.left told m at))
-
-pub returns-clause-frame : goal.returns-clause-frame
-returns-clause-frame g c = c.enter_state.ensures.frame
+pub returns-clause-done : goal.returns-clause-done
+returns-clause-done g c now = record {
+  frame = c.enter_state.ensures.frame;
+  told = tt;
+  row = λ told m job at is (alive, stays).
+      let old : DiskView = g.D.Disk.view c.args.disk.now in
+      let new : DiskView = g.D.Disk.view c.enter_state.new.disk in
+      let laws : Laws old = record { reads_itself = g.met.D.Disk.reads_itself told c.args.disk.now; is_now = g.met.D.Disk.is_now told c.args.disk.now; only_now = g.met.D.Disk.only_now told c.args.disk.now } in
+      wanting_row (view_of c.args.self.now) (view_of c.enter_state.new.self) now job m old new laws at
+      (subst (λ (k : ConnId). is_dead (m.states k) ≡ false) (sym is) alive) stays
+      (subst (λ (k : ConnId). Left k Dead (view_of c.args.self.now) m (view_of c.enter_state.new.self) old new) (sym is) (c.enter_state.ensures.left told m at));
+}

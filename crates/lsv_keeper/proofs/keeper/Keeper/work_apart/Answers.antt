@@ -1,16 +1,9 @@
-use Rattle.std.proofs.Common.{Ok, ap, subst, sym, ◌≡◌}
+use Rattle.std.proofs.Common.{Ok, subst, sym, ◌≡◌}
 use Rattle.lsv_request.specs.declared.request.Request.{Request}
-use Rattle.lsv_machine.specs.Failures.{AsksFor}
 use Rattle.lsv_machine.specs.Judgement.{judged}
 use Rattle.lsv_keeper.specs.Jobs.{DoesRequest}
-use Rattle.lsv_keeper.specs.Syncing.{GoesOnWith}
 use Rattle.lsv_keeper.specs.Views.{view_of}
 use Rattle.lsv_keeper.proofs.Requests.{valid_record}
-use Rattle.lsv_keeper.proofs.Syncing.{of_none}
-use Rattle.lsv_keeper.proofs.SparingLemmas.{spares_none}
-use Rattle.lsv_keeper.proofs.Causes.{does_free, does_needs}
-use Rattle.lsv_machine.specs.Work.{has_line}
-use Rattle.lsv_keeper.specs.Value.{settings_of}
 use Rattle.lsv_keeper.proofs.keeper.Keeper.work_apart.Goals as goal
 
 pub record-requires-clause-valid : goal.record-requires-clause-valid
@@ -28,18 +21,8 @@ returns-in-Hello g c = record {
 pub returns-in-Accept : goal.returns-in-Accept
 returns-in-Accept g c = record {
   done =
-      let v = view_of c.args.self.now in
-      let v' = view_of c.accept.new.self in
-      let old = g.D.Disk.view c.args.disk.now in
-      let new = g.D.Disk.view c.accept.new.disk in
-      record {
-        keeps = c.accept.ensures.frame.keeps;
-        told = c.accept.ensures.told;
-        row = λ told m job at conn asks. c.accept.ensures.row told m job at conn (subst (λ (x : Request). AsksFor (m.states c.args.conn) job.body x) c.in-Accept.is asks);
-        syncs = λ told m at. of_none (GoesOnWith c.args.request) v v' old new (c.accept.ensures.frame.syncs told m at);
-        spared = λ told m at. spares_none v v' old new m at (c.accept.ensures.frame.syncs told m at);
-        does = does_needs (λ u. ap (has_line (settings_of v)) c.in-Accept.is) c.accept.ensures.frame.does;
-      };
+      subst (λ (x : Request). DoesRequest g.D.Disk.tells c.args.now c.args.conn x c.accept.result (view_of c.args.self.now) (view_of c.accept.new.self) (g.D.Disk.view c.args.disk.now) (g.D.Disk.view c.accept.new.disk)) (sym c.in-Accept.is)
+      c.accept.ensures.done;
 }
 
 pub returns-in-Reject : goal.returns-in-Reject
