@@ -64,7 +64,7 @@ pub record ServesLoad (lane_tells : Type 0) (count : ℕ) (turns : List LaneTurn
 
 -- all links of a port are closed, and were served by these turns up to some point, by worker 0, whose jobs all are
 pub record PutsOne (turns : List LaneTurn) (old new : PortView) : Type 0 where
-  pub put : PutsPrefixes 0 (λ lane. jobs_in (one_lane lane turns)) (λ lane. replies_in (one_lane lane turns)) old new
+  pub put : PutsPrefixes 1 0 (λ lane. jobs_in (one_lane lane turns)) (λ lane. replies_in (one_lane lane turns)) old new
   pub only : (job : Job) → Contains (jobs_in turns) job → job.conn.worker ≡ 0
 
 -- the conversations were served by these turns up to some point, from a port of their own: it told what the script says
