@@ -79,11 +79,11 @@ module _ {T L : Type 0} (words : Endpoint.Ghosts T) (lane_words : Lane.Ghosts L)
   abbrev pub took : ℕ → List Reply
   took w = (pick w).1
 
-  pub at_end : AreAtEnd words starts endpoints stops gave took
+  pub at_end : AreAtEnd words starts count endpoints stops gave took
   at_end w endpoint at =
       let h = (pick w).2.here endpoint at in
-      subst (λ (g : ℕ → List Job). IsAtEnd words (starts w) w endpoint (slice_index_or stops w false) g (took w)) h.1
-      (subst (λ (r : List Reply). IsAtEnd words (starts w) w endpoint (slice_index_or stops w false) h.0.gave r) h.2 (record { number_is = h.0.number_is; made = h.0.made; put = h.0.put }))
+      subst (λ (g : ℕ → List Job). IsAtEnd words (starts w) count w endpoint (slice_index_or stops w false) g (took w)) h.1
+      (subst (λ (r : List Reply). IsAtEnd words (starts w) count w endpoint (slice_index_or stops w false) h.0.gave r) h.2 (record { number_is = h.0.number_is; lanes_are = h.0.lanes_are; made = h.0.made; put = h.0.put }))
 
   -- ---- Nothing was lost
 
@@ -113,14 +113,14 @@ module _ {T L : Type 0} (words : Endpoint.Ghosts T) (lane_words : Lane.Ghosts L)
 
   -- ---- Something was lost
 
-  pub puts_lanes : (news : List T) → length news ≡ length endpoints → AreStopped words starts news gave took (length news) → PutsLanes words starts news t.turns
+  pub puts_lanes : (news : List T) → length news ≡ length endpoints → AreStopped words starts count news gave took (length news) → PutsLanes words count starts news t.turns
   puts_lanes news size stopped = record {
     each = λ told w new at.
         let e = get_at endpoints w (let l = slice_get_within news w new at in omega (arith, l, size)) in
         let h = (pick w).2.here e.0 e.1 in
-        puts_turns w t.turns h.0.took h.0.merge t.to_these h.0.gave h.0.dropped h.0.gave_are (words.begun (starts w)) (words.view new)
-        (subst (λ (g : ℕ → List Job). PutsPrefixes w g (λ l. h.0.took) (words.begun (starts w)) (words.view new)) (sym h.1)
-        (subst (λ (r : List Reply). PutsPrefixes w (gave w) (λ l. r) (words.begun (starts w)) (words.view new)) (sym h.2) (stopped told w new (slice_get_within news w new at) at)));
+        puts_turns w t.turns h.0.took h.0.merge t.to_these h.0.gave h.0.dropped h.0.gave_are count (words.begun (starts w)) (words.view new)
+        (subst (λ (g : ℕ → List Job). PutsPrefixes count w g (λ l. h.0.took) (words.begun (starts w)) (words.view new)) (sym h.1)
+        (subst (λ (r : List Reply). PutsPrefixes count w (gave w) (λ l. r) (words.begun (starts w)) (words.view new)) (sym h.2) (stopped told w new (slice_get_within news w new at) at)));
     within = λ l job has. let a = t.within l job has in let s = t.size in omega arith;
   }
 
@@ -129,7 +129,7 @@ module _ {T L : Type 0} (words : Endpoint.Ghosts T) (lane_words : Lane.Ghosts L)
   pub ran_served : (news : List T) (end : Result PortsEnd NoMem) → length news ≡ length endpoints → KeepPorts words.view endpoints news
       → ((e : PortsEnd) → end ≡ Ok e → (failed ≡ false) × ((w : ℕ) → slice_index_or stops w false ≡ false) × (news ≡ endpoints))
       → ((e : PortsEnd) → end ≡ Ok e → AreMade words.made_by starts endpoints gave took → AreOver words.tells words.number words.lanes words.begun words.view starts endpoints gave took (length endpoints) e)
-      → ((why : NoMem) → end ≡ Err why → AreStopped words starts news gave took (length news))
+      → ((why : NoMem) → end ≡ Err why → AreStopped words starts count news gave took (length news))
       → AreServed words lane_words starts begins olds count news lanes end
   ran_served news end size keep whole over stopped = record {
     turns = t.turns;
@@ -156,10 +156,10 @@ no_job job has = absurd (let less = has.1 in omega arith)
 
 module _ {T L : Type 0} (words : Endpoint.Ghosts T) (lane_words : Lane.Ghosts L) (olds : List T) (lanes : List L) (starts : ℕ → words.Start) where
   -- endpoints that did nothing yet
-  pub fresh_ends : AreFresh words olds (length lanes) starts → AreAtEnd words starts olds [] (λ w l. []) (λ w. [])
-  fresh_ends fresh w endpoint at = record { number_is = λ e. fresh.numbered w endpoint at; made = λ e. fresh.begun w endpoint at; put = λ e. absurd cc }
+  pub fresh_ends : AreFresh words olds (length lanes) starts → AreAtEnd words starts (length lanes) olds [] (λ w l. []) (λ w. [])
+  fresh_ends fresh w endpoint at = record { number_is = λ e. fresh.numbered w endpoint at; lanes_are = λ e. fresh.lanes_are w endpoint at; made = λ e. fresh.begun w endpoint at; put = λ e. absurd cc }
 
-  pub fresh_served : (begins : ℕ → lane_words.Start) → AreFreshLanes lane_words lanes begins → (news : List T) (why : NoMem) → length news ≡ length olds → KeepPorts words.view olds news → AreStopped words starts news (λ w l. []) (λ w. []) (length news)
+  pub fresh_served : (begins : ℕ → lane_words.Start) → AreFreshLanes lane_words lanes begins → (news : List T) (why : NoMem) → length news ≡ length olds → KeepPorts words.view olds news → AreStopped words starts (length lanes) news (λ w l. []) (λ w. []) (length news)
       → AreServed words lane_words starts begins olds (length lanes) news lanes (Err why)
   fresh_served begins fresh_lanes news why size keep stopped = record {
     turns = λ l. [];

@@ -76,17 +76,17 @@ answers_append k xs ys =
 pub prefix_more : (k : ConnId) (output : List ℕ) (xs ys : List Reply) → IsPrefix output (answers k xs) → IsPrefix output (answers k (xs ++ ys))
 prefix_more k output xs ys p = (p.0 ++ frames_of (said_to k ys), answers_append k xs ys ∙ (ap (λ (l : List ℕ). l ++ frames_of (said_to k ys)) p.1 ∙ append_assoc output p.0 (frames_of (said_to k ys))))
 
-put_more : (worker l : ℕ) (seat : Option ℕ) (jobs : ℕ → List Job) (xs ys : List Reply) (port : PortState) → IsPut worker l seat jobs (λ lane. xs) port → IsPut worker l seat jobs (λ lane. xs ++ ys) port
-put_more worker l None jobs xs ys port s = s
-put_more worker l (Some seq) jobs xs ys port s =
-    let t : ServesSome (conn_of worker seq) (port.link l) jobs (λ lane. xs) = s in
-    record { lane = t.lane; brought = t.brought; elsewhere = t.elsewhere; prefix = prefix_more (conn_of worker seq) (port.link l).output xs ys t.prefix }
+put_more : (lanes worker l : ℕ) (seat : Option ℕ) (jobs : ℕ → List Job) (xs ys : List Reply) (port : PortState) → IsPut lanes worker l seat jobs (λ lane. xs) port → IsPut lanes worker l seat jobs (λ lane. xs ++ ys) port
+put_more lanes worker l None jobs xs ys port s = s
+put_more lanes worker l (Some seq) jobs xs ys port s =
+    let t : ServesSome lanes (conn_of worker seq) (port.link l) jobs (λ lane. xs) = s in
+    record { lane = t.lane; decided = t.decided; brought = t.brought; elsewhere = t.elsewhere; prefix = prefix_more (conn_of worker seq) (port.link l).output xs ys t.prefix }
 
-pub puts_more : (worker : ℕ) (jobs : ℕ → List Job) (xs ys : List Reply) (old new : PortView) → PutsPrefixes worker jobs (λ lane. xs) old new → PutsPrefixes worker jobs (λ lane. xs ++ ys) old new
-puts_more worker jobs xs ys old new s = record {
+pub puts_more : (lanes worker : ℕ) (jobs : ℕ → List Job) (xs ys : List Reply) (old new : PortView) → PutsPrefixes lanes worker jobs (λ lane. xs) old new → PutsPrefixes lanes worker jobs (λ lane. xs ++ ys) old new
+puts_more lanes worker jobs xs ys old new s = record {
   seats = s.seats;
   closed = s.closed;
-  put = λ l opened. put_more worker l (s.seats.seat l) jobs xs ys new.state (s.put l opened);
+  put = λ l opened. put_more lanes worker l (s.seats.seat l) jobs xs ys new.state (s.put l opened);
   known = s.known;
   goes_on = s.goes_on;
 }
@@ -109,20 +109,21 @@ module _ {T : Type 0} (words : Endpoint.Ghosts T) where
   }
 
   pub on_here : (a : Desk T) → GoesOn words a a
-  on_here a = record { same = same_here a; stopped = refl; stands = λ start gave s. s }
+  on_here a = record { same = same_here a; stopped = refl; stands = λ start lanes gave s. s }
 
   pub on_then : (a b c : Desk T) → GoesOn words a b → GoesOn words b c → GoesOn words a c
   on_then a b c f g = record {
     same = same_then a b c f.same g.same;
     stopped = g.stopped ∙ f.stopped;
-    stands = λ start gave s. g.stands start gave (f.stands start gave s);
+    stands = λ start lanes gave s. g.stands start lanes gave (f.stands start lanes gave s);
   }
 
   pub at_then : (a b : Desk T) (gave : ℕ → List Job) → GoesOn words a b → IsAt words a gave → IsAt words b gave
   at_then a b gave f at = record {
     start = at.start;
+    lanes = at.lanes;
     number_is = λ e. f.same.endpoint_number e ∙ (at.number_is (f.same.stays e) ∙ sym f.same.number_is);
-    stands = f.stands at.start gave at.stands;
+    stands = f.stands at.start at.lanes gave at.stands;
   }
 
 -- a desk whose pass took something
@@ -138,9 +139,10 @@ module _ {T : Type 0} (words : Endpoint.Ghosts T) (a : Desk T) (taken : OutPass 
   on_nothing e = record {
     same = same_pass;
     stopped = refl;
-    stands = λ start gave s. record {
+    stands = λ start lanes gave s. record {
+      lanes_are = s.lanes_are;
       made = λ g. subst (λ (l : List Reply). words.made_by start a.endpoint gave l) (sym e) (s.made g);
-      put = λ g told. subst (λ (l : List Reply). PutsPrefixes a.number gave (λ lane. l) (words.begun start) (words.view a.endpoint)) (sym e) (s.put g told);
+      put = λ g told. subst (λ (l : List Reply). PutsPrefixes lanes a.number gave (λ lane. l) (words.begun start) (words.view a.endpoint)) (sym e) (s.put g told);
     };
   }
 
@@ -150,9 +152,10 @@ module _ {T : Type 0} (words : Endpoint.Ghosts T) (a : Desk T) (taken : OutPass 
       let more : replies_to a.number (items_of taken.taken.got) ≡ heard a ++ replies_to a.number (r ∷ []) = ap (replies_to a.number) e ∙ replies_append a.number (items_of a.taken.taken.got) (r ∷ []) in record {
         same = same_pass;
         stopped = refl;
-        stands = λ start gave s. record {
+        stands = λ start lanes gave s. record {
+          lanes_are = s.lanes_are;
           made = λ g. absurd (let no = sym stopped ∙ g in cc);
-          put = λ g told. subst (λ (l : List Reply). PutsPrefixes a.number gave (λ lane. l) (words.begun start) (words.view a.endpoint)) (sym more)
-              (puts_more a.number gave (heard a) (replies_to a.number (r ∷ [])) (words.begun start) (words.view a.endpoint) (s.put g told));
+          put = λ g told. subst (λ (l : List Reply). PutsPrefixes lanes a.number gave (λ lane. l) (words.begun start) (words.view a.endpoint)) (sym more)
+              (puts_more lanes a.number gave (heard a) (replies_to a.number (r ∷ [])) (words.begun start) (words.view a.endpoint) (s.put g told));
         };
       }

@@ -25,6 +25,7 @@ use Rattle.lsv_links.specs.Turns.{jobs_of, replies_to}
 use Rattle.lsv_links.specs.Views.{PortView}
 use Rattle.lsv_links.proofs.PrefixLemmas.{brings_first}
 use Rattle.lsv_reactor.specs.Endpoints.{AreAskedBy, Serves}
+use Rattle.lsv_reactor.proofs.Deciding.{part_decides}
 use Rattle.lsv_reactor.proofs.Own.{EqOr.equal, EqOr.unequal, contains_own, eq_or}
 use Rattle.lsv_threads.proofs.Saying.{for_none, none_for, replies_for, said_by_lane}
 
@@ -240,29 +241,30 @@ module _ (w : ℕ) (turns : ℕ → List LaneTurn) (took : List Reply) (merge : 
     bodies_gave : (seq m : ℕ) → bodies_of (conn_of w seq) (gave m) ≡ bodies_of (conn_of w seq) (jobs_in (turns m)) ++ bodies_of (conn_of w seq) (dropped m)
     bodies_gave seq m = ap (bodies_of (conn_of w seq)) (gave_are m) ∙ (bodies_of-append (conn_of w seq) (own_jobs w turns m) (dropped m) ∙ ap (λ (b : List Body). b ++ bodies_of (conn_of w seq) (dropped m)) (bodies_own w seq (jobs_in (turns m))))
 
-    some_turns : (seq : ℕ) (link : LinkState) → ServesSome (conn_of w seq) link gave (λ lane. took) → ServesSome (conn_of w seq) link (λ m. jobs_in (turns m)) (λ m. replies_in (turns m))
-    some_turns seq link s =
+    some_turns : (lanes seq : ℕ) (link : LinkState) → ServesSome lanes (conn_of w seq) link gave (λ lane. took) → ServesSome lanes (conn_of w seq) link (λ m. jobs_in (turns m)) (λ m. replies_in (turns m))
+    some_turns lanes seq link s =
         let k = conn_of w seq in
         let elsewhere : (m : ℕ) → m ≢ s.lane → bodies_of k (jobs_in (turns m)) ≡ [] = λ m ne. front_none (bodies_of k (jobs_in (turns m))) (bodies_of k (dropped m)) (sym (bodies_gave seq m) ∙ s.elsewhere m ne) in
         record {
           lane = s.lane;
+          decided = part_decides lanes (seq % lanes) s.lane (bodies_of k (jobs_in (turns s.lane))) (bodies_of k (gave s.lane)) (bodies_of k (dropped s.lane), bodies_gave seq s.lane) s.decided;
           brought = brings_first link.input (bodies_of k (jobs_in (turns s.lane))) (bodies_of k (gave s.lane)) (bodies_of k (dropped s.lane), bodies_gave seq s.lane) s.brought;
           elsewhere = elsewhere;
           prefix = subst (IsPrefix link.output) (same_answers k took (replies_in (turns s.lane)) (said_at k s.lane refl elsewhere)) s.prefix;
         }
 
-    put_turns : (l : ℕ) (seat : Option ℕ) (port : PortState) → IsPut w l seat gave (λ lane. took) port → IsPut w l seat (λ m. jobs_in (turns m)) (λ m. replies_in (turns m)) port
-    put_turns l None port p = p
-    put_turns l (Some seq) port p = some_turns seq (port.link l) p
+    put_turns : (lanes l : ℕ) (seat : Option ℕ) (port : PortState) → IsPut lanes w l seat gave (λ lane. took) port → IsPut lanes w l seat (λ m. jobs_in (turns m)) (λ m. replies_in (turns m)) port
+    put_turns lanes l None port p = p
+    put_turns lanes l (Some seq) port p = some_turns lanes seq (port.link l) p
 
     has_gave : (m : ℕ) (job : Job) → Contains (jobs_in (turns m)) job → job.conn.worker ≡ w → Contains (gave m) job
     has_gave m job has e = subst (λ (l : List Job). Contains l job) (sym (gave_are m)) (Contains-append_left (own_jobs w turns m) (dropped m) job (contains_own w (jobs_in (turns m)) job has e))
 
-    pub puts_turns : (old new : PortView) → PutsPrefixes w gave (λ lane. took) old new → PutsPrefixes w (λ m. jobs_in (turns m)) (λ m. replies_in (turns m)) old new
-    puts_turns old new p = record {
+    pub puts_turns : (lanes : ℕ) (old new : PortView) → PutsPrefixes lanes w gave (λ lane. took) old new → PutsPrefixes lanes w (λ m. jobs_in (turns m)) (λ m. replies_in (turns m)) old new
+    puts_turns lanes old new p = record {
       seats = p.seats;
       closed = p.closed;
-      put = λ l is. put_turns l (p.seats.seat l) new.state (p.put l is);
+      put = λ l is. put_turns lanes l (p.seats.seat l) new.state (p.put l is);
       known = λ m job has e. p.known m job (has_gave m job has e) e;
       goes_on = p.goes_on;
     }

@@ -113,8 +113,8 @@ module _ {T L : Type 0} (words : Endpoint.Ghosts T) (lane_words : Lane.Ghosts L)
       desk = same_here words side.desk;
       lanes_are = λ e. fresh.lanes_are k side.desk.endpoint is_side.endpoint ∙ sym wide;
       number_is = λ e. fresh.numbered k side.desk.endpoint is_side.endpoint ∙ sym is_side.number;
-      begun = (starts k, record { made = λ e. worker_stands starts fresh; put = λ e. absurd (let no = sym e ∙ is_side.stopped in cc) });
-      stands = λ start s. s;
+      begun = (starts k, length lanes, record { lanes_are = λ e. fresh.lanes_are k side.desk.endpoint is_side.endpoint; made = λ e. worker_stands starts fresh; put = λ e. absurd (let no = sym e ∙ is_side.stopped in cc) });
+      stands = λ start lanes s. s;
     }
 
     pub worker_placed : (starts : ℕ → words.Start) → AreFresh words endpoints (length lanes) starts → IsPlaced words inboxes outs side

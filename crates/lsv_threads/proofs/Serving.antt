@@ -427,11 +427,12 @@ module _ {T L : Type 0} (words : Endpoint.Ghosts T) (lane_words : Lane.Ghosts L)
           let his : replies_to w (items_of side.desk.taken.taken.got) ≡ items_of side.desk.taken.taken.got = merge_his w (items_of side.desk.taken.taken.got) (λ l. replies_to w (replies_in (turns l))) merge (λ l. to_twice w (replies_in (turns l))) in
           subst (λ (n : ℕ). IsMerge (replies_to n (items_of side.desk.taken.taken.got)) (λ l. replies_to w (replies_in (turns l)))) (sym number) (subst (λ (z : List Reply). IsMerge z (λ l. replies_to w (replies_in (turns l)))) (sym his) merge)
 
-      stands_at : (w : ℕ) (side : WorkerSide T) → slice_get ended w ≡ Some side → Stands words (starts w) side.desk (puts_at side.put.items)
+      stands_at : (w : ℕ) (side : WorkerSide T) → slice_get ended w ≡ Some side → Stands words (starts w) (length lanes) side.desk (puts_at side.put.items)
       stands_at w side at =
           let f = worker_first w side at in
           let first_going : f.0.desk.stopped ≡ false = (laid.workers_are.each w f.0 f.1).stopped in
-          f.2.stands (starts w) (record {
+          f.2.stands (starts w) (length lanes) (record {
+            lanes_are = λ e. fresh.lanes_are w f.0.desk.endpoint (laid.workers_are.each w f.0 f.1).endpoint;
             made = λ e. worker_stands words lane_words endpoints lanes inboxes outs rows lane_rows receivers lane_receivers workers ways laid w f.0 f.1 starts fresh;
             put = λ e. absurd (let no = sym e ∙ first_going in cc);
           })
@@ -461,7 +462,7 @@ module _ {T L : Type 0} (words : Endpoint.Ghosts T) (lane_words : Lane.Ghosts L)
               number_is = λ e. f.2.number_is (same ∙ e) ∙ number;
               lanes_are = λ e. f.2.lanes_are (same ∙ e) ∙ wide_ended w side at;
               made = λ e. stands.made (same ∙ e);
-              put = λ e told. subst (λ (n : ℕ). PutsPrefixes n (puts_at side.put.items) (λ l. heard side.desk) (words.begun (starts w)) (words.view side.desk.endpoint)) number (stands.put (same ∙ e) told);
+              put = λ e told. subst (λ (n : ℕ). PutsPrefixes (length lanes) n (puts_at side.put.items) (λ l. heard side.desk) (words.begun (starts w)) (words.view side.desk.endpoint)) number (stands.put (same ∙ e) told);
             }
 
         pub are_turned : AreTurned words lane_words starts begins endpoints (length lanes) (map (λ s. s.desk.endpoint) ended) (map (λ s. s.desk.stopped) ended) (map (λ s. s.lane) lanes_ended) failed

@@ -45,7 +45,7 @@ side_of {T} side desk = record { desk = desk; put = side.put; ended = side.ended
 module _ {T : Type 0} (words : Endpoint.Ghosts T) (inboxes : List (Queue Job)) where
   -- the desk, with what stands in its passes
   pub at_side : (first side : WorkerSide T) → IsFrom words inboxes first side → IsAt words side.desk (puts_at side.put.items)
-  at_side first side from = record { start = from.begun.0; number_is = from.number_is; stands = from.begun.1 }
+  at_side first side from = record { start = from.begun.0; lanes = from.begun.1; number_is = from.number_is; stands = from.begun.2 }
 
   -- replies were taken
   pub from_heard : (first side : WorkerSide T) (desk : Desk T) → GoesOn words side.desk desk → IsFrom words inboxes first side → IsFrom words inboxes first (side_of side desk)
@@ -56,12 +56,12 @@ module _ {T : Type 0} (words : Endpoint.Ghosts T) (inboxes : List (Queue Job)) w
     desk = same_then words first.desk side.desk desk from.desk on.same;
     lanes_are = λ e. on.same.endpoint_lanes e ∙ from.lanes_are (on.same.stays e);
     number_is = λ e. on.same.endpoint_number e ∙ (from.number_is (on.same.stays e) ∙ sym on.same.number_is);
-    begun = (from.begun.0, on.stands from.begun.0 (puts_at side.put.items) from.begun.1);
-    stands = λ start s. on.stands start (puts_at side.put.items) (from.stands start s);
+    begun = (from.begun.0, from.begun.1, on.stands from.begun.0 from.begun.1 (puts_at side.put.items) from.begun.2);
+    stands = λ start lanes s. on.stands start lanes (puts_at side.put.items) (from.stands start lanes s);
   }
 
   -- the endpoint was stopped
-  pub from_stopped : (first side : WorkerSide T) (desk : Desk T) → desk.stopped ≡ true → IsSameDesk words side.desk desk → ((start : words.Start) (gave : ℕ → List Job) → Stands words start side.desk gave → Stands words start desk gave)
+  pub from_stopped : (first side : WorkerSide T) (desk : Desk T) → desk.stopped ≡ true → IsSameDesk words side.desk desk → ((start : words.Start) (lanes : ℕ) (gave : ℕ → List Job) → Stands words start lanes side.desk gave → Stands words start lanes desk gave)
       → IsFrom words inboxes first side → IsFrom words inboxes first (side_of side desk)
   from_stopped first side desk stopped same stands from = record {
     passes = from.passes;
@@ -70,8 +70,8 @@ module _ {T : Type 0} (words : Endpoint.Ghosts T) (inboxes : List (Queue Job)) w
     desk = same_then words first.desk side.desk desk from.desk same;
     lanes_are = λ e. absurd (let no = sym stopped ∙ e in cc);
     number_is = λ e. absurd (let no = sym stopped ∙ e in cc);
-    begun = (from.begun.0, stands from.begun.0 (puts_at side.put.items) from.begun.1);
-    stands = λ start s. stands start (puts_at side.put.items) (from.stands start s);
+    begun = (from.begun.0, from.begun.1, stands from.begun.0 from.begun.1 (puts_at side.put.items) from.begun.2);
+    stands = λ start lanes s. stands start lanes (puts_at side.put.items) (from.stands start lanes s);
   }
 
   -- the endpoint was served
@@ -84,8 +84,8 @@ module _ {T : Type 0} (words : Endpoint.Ghosts T) (inboxes : List (Queue Job)) w
     desk = same_then words first.desk side.desk new.desk from.desk puts.same;
     lanes_are = λ e. puts.same.endpoint_lanes e ∙ (from.lanes_are (puts.same.stays e) ∙ sym keeps.size);
     number_is = λ e. puts.same.endpoint_number e ∙ (from.number_is (puts.same.stays e) ∙ sym puts.same.number_is);
-    begun = (from.begun.0, puts.stands from.begun.0 from.begun.1);
-    stands = λ start s. puts.stands start (from.stands start s);
+    begun = (from.begun.0, from.begun.1, puts.stands from.begun.0 from.begun.1 from.begun.2);
+    stands = λ start lanes s. puts.stands start lanes (from.stands start lanes s);
   }
 
   -- the endpoint was served by these passes
@@ -115,8 +115,8 @@ module _ {T : Type 0} (words : Endpoint.Ghosts T) (inboxes : List (Queue Job)) w
         desk = subst (λ (d : Desk T). IsSameDesk words first.desk d) (sym desk) from.desk;
         lanes_are = subst (λ (d : Desk T). d.stopped ≡ false → words.lanes d.endpoint ≡ length new.put.items) (sym desk) (λ e. from.lanes_are e ∙ sym (ap length is ∙ length-set side.put.items side.ended q));
         number_is = subst (λ (d : Desk T). d.stopped ≡ false → words.number d.endpoint ≡ d.number) (sym desk) from.number_is;
-        begun = (from.begun.0, subst (λ (d : Desk T). Stands words from.begun.0 d (puts_at new.put.items)) (sym desk) (subst (λ (f : ℕ → List Job). Stands words from.begun.0 side.desk f) (sym puts) from.begun.1));
-        stands = λ start s. subst (λ (d : Desk T). Stands words start d (puts_at new.put.items)) (sym desk) (subst (λ (f : ℕ → List Job). Stands words start side.desk f) (sym puts) (from.stands start s));
+        begun = (from.begun.0, from.begun.1, subst (λ (d : Desk T). Stands words from.begun.0 from.begun.1 d (puts_at new.put.items)) (sym desk) (subst (λ (f : ℕ → List Job). Stands words from.begun.0 from.begun.1 side.desk f) (sym puts) from.begun.2));
+        stands = λ start lanes s. subst (λ (d : Desk T). Stands words start lanes d (puts_at new.put.items)) (sym desk) (subst (λ (f : ℕ → List Job). Stands words start lanes side.desk f) (sym puts) (from.stands start lanes s));
       }
 
   -- nothing changed
@@ -128,6 +128,6 @@ module _ {T : Type 0} (words : Endpoint.Ghosts T) (inboxes : List (Queue Job)) w
     desk = subst (λ (d : Desk T). IsSameDesk words first.desk d) (sym desk) from.desk;
     lanes_are = subst (λ (d : Desk T). d.stopped ≡ false → words.lanes d.endpoint ≡ length new.put.items) (sym desk) (λ e. from.lanes_are e ∙ sym (ap length put));
     number_is = subst (λ (d : Desk T). d.stopped ≡ false → words.number d.endpoint ≡ d.number) (sym desk) from.number_is;
-    begun = (from.begun.0, subst (λ (d : Desk T). Stands words from.begun.0 d (puts_at new.put.items)) (sym desk) (subst (λ (l : List (InPass Job)). Stands words from.begun.0 side.desk (puts_at l)) (sym put) from.begun.1));
-    stands = λ start s. subst (λ (d : Desk T). Stands words start d (puts_at new.put.items)) (sym desk) (subst (λ (l : List (InPass Job)). Stands words start side.desk (puts_at l)) (sym put) (from.stands start s));
+    begun = (from.begun.0, from.begun.1, subst (λ (d : Desk T). Stands words from.begun.0 from.begun.1 d (puts_at new.put.items)) (sym desk) (subst (λ (l : List (InPass Job)). Stands words from.begun.0 from.begun.1 side.desk (puts_at l)) (sym put) from.begun.2));
+    stands = λ start lanes s. subst (λ (d : Desk T). Stands words start lanes d (puts_at new.put.items)) (sym desk) (subst (λ (l : List (InPass Job)). Stands words start lanes side.desk (puts_at l)) (sym put) (from.stands start lanes s));
   }

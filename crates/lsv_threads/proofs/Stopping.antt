@@ -31,28 +31,30 @@ keep_more {T} view olds posts place x y less at goes kept w old new a e = elim (
 
 -- ---- Stopped
 
-module _ {T : Type 0} (words : Endpoint.Ghosts T) (starts : ℕ → words.Start) (stops : List Bool) (gave : ℕ → ℕ → List Job) (took : ℕ → List Reply) where
-  pub stopped_none : (posts : List T) → AreStopped words starts posts gave took 0
+module _ {T : Type 0} (words : Endpoint.Ghosts T) (starts : ℕ → words.Start) (lanes : ℕ) (stops : List Bool) (gave : ℕ → ℕ → List Job) (took : ℕ → List Reply) where
+  pub stopped_none : (posts : List T) → AreStopped words starts lanes posts gave took 0
   stopped_none posts told w endpoint less at = absurd (omega (arith, less))
 
   put_here : (stopped : Bool) (place : ℕ) (x y : T) → (stopped ≡ true → y ≡ x)
-      → (stopped ≡ false → words.tells → (start : words.Start) (jobs : ℕ → List Job) (replies : List Reply) → words.made_by start x jobs replies → PutsPrefixes (words.number x) jobs (λ l. replies) (words.begun start) (words.view y))
-      → IsAtEnd words (starts place) place x stopped (gave place) (took place) → words.tells → PutsPrefixes place (gave place) (λ l. took place) (words.begun (starts place)) (words.view y)
-  put_here true place x y kept put a told = subst (λ (z : T). PutsPrefixes place (gave place) (λ l. took place) (words.begun (starts place)) (words.view z)) (sym (kept refl)) (a.put refl told)
-  put_here false place x y kept put a told = subst (λ (n : ℕ). PutsPrefixes n (gave place) (λ l. took place) (words.begun (starts place)) (words.view y)) (a.number_is refl) (put refl told (starts place) (gave place) (took place) (a.made refl))
+      → (stopped ≡ false → words.tells → (start : words.Start) (jobs : ℕ → List Job) (replies : List Reply) → words.made_by start x jobs replies → PutsPrefixes (words.lanes x) (words.number x) jobs (λ l. replies) (words.begun start) (words.view y))
+      → IsAtEnd words (starts place) lanes place x stopped (gave place) (took place) → words.tells → PutsPrefixes lanes place (gave place) (λ l. took place) (words.begun (starts place)) (words.view y)
+  put_here true place x y kept put a told = subst (λ (z : T). PutsPrefixes lanes place (gave place) (λ l. took place) (words.begun (starts place)) (words.view z)) (sym (kept refl)) (a.put refl told)
+  put_here false place x y kept put a told =
+      subst (λ (m : ℕ). PutsPrefixes m place (gave place) (λ l. took place) (words.begun (starts place)) (words.view y)) (a.lanes_are refl)
+      (subst (λ (n : ℕ). PutsPrefixes (words.lanes x) n (gave place) (λ l. took place) (words.begun (starts place)) (words.view y)) (a.number_is refl) (put refl told (starts place) (gave place) (took place) (a.made refl)))
 
   -- the endpoint at the next place is stopped
   pub stopped_more : (olds posts : List T) (place : ℕ) (x y : T) → place < length posts → slice_get olds place ≡ Some x → (slice_index_or stops place false ≡ true → y ≡ x)
-      → (slice_index_or stops place false ≡ false → words.tells → (start : words.Start) (jobs : ℕ → List Job) (replies : List Reply) → words.made_by start x jobs replies → PutsPrefixes (words.number x) jobs (λ l. replies) (words.begun start) (words.view y))
-      → AreAtEnd words starts olds stops gave took → AreStopped words starts posts gave took place → AreStopped words starts (set posts place y) gave took (place + 1)
+      → (slice_index_or stops place false ≡ false → words.tells → (start : words.Start) (jobs : ℕ → List Job) (replies : List Reply) → words.made_by start x jobs replies → PutsPrefixes (words.lanes x) (words.number x) jobs (λ l. replies) (words.begun start) (words.view y))
+      → AreAtEnd words starts lanes olds stops gave took → AreStopped words starts lanes posts gave took place → AreStopped words starts lanes (set posts place y) gave took (place + 1)
   stopped_more olds posts place x y less at kept put ends below told w z under e = elim (eq_or w place) [
     | equal p t ↦
         let there : slice_get (set posts place y) place ≡ Some z = subst (λ (k : ℕ). slice_get (set posts place y) k ≡ Some z) p e in
         let here = put_here (slice_index_or stops place false) place x y kept put (ends place x at) told in
-        subst (λ (k : ℕ). PutsPrefixes k (gave k) (λ l. took k) (words.begun (starts k)) (words.view z)) (sym p)
-        (subst (λ (v : T). PutsPrefixes place (gave place) (λ l. took place) (words.begun (starts place)) (words.view v)) (sym (set_here posts place y z there less)) here)
+        subst (λ (k : ℕ). PutsPrefixes lanes k (gave k) (λ l. took k) (words.begun (starts k)) (words.view z)) (sym p)
+        (subst (λ (v : T). PutsPrefixes lanes place (gave place) (λ l. took place) (words.begun (starts place)) (words.view v)) (sym (set_here posts place y z there less)) here)
     | unequal ne t ↦ below told w z (omega (arith, under, ne)) (set_there posts place w y z ne e)
   ]
 
-  pub stopped_whole : (posts : List T) (count : ℕ) → length posts ≤ count → AreStopped words starts posts gave took count → AreStopped words starts posts gave took (length posts)
+  pub stopped_whole : (posts : List T) (count : ℕ) → length posts ≤ count → AreStopped words starts lanes posts gave took count → AreStopped words starts lanes posts gave took (length posts)
   stopped_whole posts count le s told w endpoint less at = s told w endpoint (omega (arith, less, le)) at

@@ -30,7 +30,7 @@ pub record IsLeft {T : Type 0} (words : Endpoint.Ghosts T) (start : words.Start)
   pub lanes_are : stopped ≡ false → words.lanes endpoint ≡ lanes
   pub made : stopped ≡ false → words.made_by start endpoint gave took
   -- if it was stopped, its links are closed, and were served by these up to some point
-  pub put : stopped ≡ true → words.tells → PutsPrefixes worker gave (λ l. took) (words.begun start) (words.view endpoint)
+  pub put : stopped ≡ true → words.tells → PutsPrefixes lanes worker gave (λ l. took) (words.begun start) (words.view endpoint)
 
 -- The turns of each lane, and each endpoint after the joins. stops: whether the endpoint of each place was stopped. failed:
 -- whether memory ran out for a lane. olds: the endpoints before the start. count: how many lanes there were.
@@ -58,14 +58,15 @@ pub record ServesLanes {T : Type 0} (words : Endpoint.Ghosts T) (lane_tells : Ty
   pub within : (l : ℕ) (job : Job) → Contains (jobs_in (turns l)) job → job.conn.worker < length endpoints
   pub ended : HasPortsEnd words.tells words.begun words.view starts endpoints end
 
--- All links of all ports are closed. The jobs of these turns of each lane are the first of what was read of them, and nothing was
--- put on them but prefixes of the answers by these turns. No job is of another worker than that of a port's place.
-pub record PutsLanes {T : Type 0} (words : Endpoint.Ghosts T) (starts : ℕ → words.Start) (endpoints : List T) (turns : ℕ → List LaneTurn) : Type 0 where
-  pub each : words.tells → (w : ℕ) (endpoint : T) → slice_get endpoints w ≡ Some endpoint → PutsPrefixes w (λ l. jobs_in (turns l)) (λ l. replies_in (turns l)) (words.begun (starts w)) (words.view endpoint)
+-- All links of all ports are closed. Each connection's jobs in these turns are of one lane, the one that they decide if they decide
+-- one. They are the first of what was read of it. Nothing was put on the links but prefixes of the answers by these turns. No job is
+-- of another worker than that of a port's place.
+pub record PutsLanes {T : Type 0} (words : Endpoint.Ghosts T) (lanes : ℕ) (starts : ℕ → words.Start) (endpoints : List T) (turns : ℕ → List LaneTurn) : Type 0 where
+  pub each : words.tells → (w : ℕ) (endpoint : T) → slice_get endpoints w ≡ Some endpoint → PutsPrefixes lanes w (λ l. jobs_in (turns l)) (λ l. replies_in (turns l)) (words.begun (starts w)) (words.view endpoint)
   pub within : (l : ℕ) (job : Job) → Contains (jobs_in (turns l)) job → job.conn.worker < length endpoints
 
 -- Each lane made some turns, of 1 to 256 jobs each, and what they did for the ports. olds: the endpoints before the start.
--- count: how many lanes there were. end: how the ports ended, or that memory ran out.
+-- count: how many lanes there were. end: how the ports ended, or an Err: memory ran out, or an endpoint lost a reply or has no end.
 pub record AreServed {T L : Type 0} (words : Endpoint.Ghosts T) (lane_words : Lane.Ghosts L) (starts : ℕ → words.Start) (begins : ℕ → lane_words.Start) (olds : List T) (count : ℕ) (endpoints : List T) (lanes : List L) (end : Result PortsEnd NoMem) : Type 0 where
   pub turns : ℕ → List LaneTurn
   pub past : (l : ℕ) → count ≤ l → turns l ≡ []
@@ -76,4 +77,4 @@ pub record AreServed {T L : Type 0} (words : Endpoint.Ghosts T) (lane_words : La
   pub lanes_size : length lanes ≡ count
   pub keep : KeepPorts words.view olds endpoints
   pub ended : (e : PortsEnd) → end ≡ Ok e → ServesLanes words lane_words.tells count starts endpoints turns e
-  pub broken : (why : NoMem) → end ≡ Err why → PutsLanes words starts endpoints turns
+  pub broken : (why : NoMem) → end ≡ Err why → PutsLanes words count starts endpoints turns

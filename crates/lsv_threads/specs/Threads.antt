@@ -53,8 +53,8 @@ module _ {T : Type 0} (words : Endpoint.Ghosts T) where
     pub lanes_are : side.desk.stopped ≡ false → words.lanes side.desk.endpoint ≡ length side.put.items
     pub number_is : side.desk.stopped ≡ false → words.number side.desk.endpoint ≡ side.desk.number
     pub marks : marks_of side.desk.taken.taken.got ≡ length side.put.items
-    pub begun : (start : words.Start) × Stands words start side.desk (puts_at side.put.items)
-    pub stands : (start : words.Start) → Stands words start first.desk (puts_at first.put.items) → Stands words start side.desk (puts_at side.put.items)
+    pub begun : (start : words.Start) × (lanes : ℕ) × Stands words start lanes side.desk (puts_at side.put.items)
+    pub stands : (start : words.Start) (lanes : ℕ) → Stands words start lanes first.desk (puts_at first.put.items) → Stands words start lanes side.desk (puts_at side.put.items)
 
   -- what a thread hands back: its side at the end, or as it was
   pub record IsBack (first : WorkerSide T) (back : WorkerBack T) : Type 0 where

@@ -1,5 +1,5 @@
 -- What a worker's thread has.
-use Rattle.std.specs.Prelude.{◌≡◌, ◌≤◌, false, List, length}
+use Rattle.std.specs.Prelude.{◌≡◌, ◌≤◌, ℕ, false, List, length}
 use Rattle.lsv_queue.specs.Order.{marks_of}
 use Rattle.lsv_queue.specs.Settled.{puts_at}
 use Rattle.lsv_queue.specs.declared.queue.Queue.{Queue}
@@ -18,8 +18,8 @@ pub record IsFrom {T : Type 0} (words : Endpoint.Ghosts T) (inboxes : List (Queu
   pub desk : IsSameDesk words first.desk side.desk
   pub lanes_are : side.desk.stopped ≡ false → words.lanes side.desk.endpoint ≡ length side.put.items
   pub number_is : side.desk.stopped ≡ false → words.number side.desk.endpoint ≡ side.desk.number
-  pub begun : (start : words.Start) × Stands words start side.desk (puts_at side.put.items)
-  pub stands : (start : words.Start) → Stands words start first.desk (puts_at first.put.items) → Stands words start side.desk (puts_at side.put.items)
+  pub begun : (start : words.Start) × (lanes : ℕ) × Stands words start lanes side.desk (puts_at side.put.items)
+  pub stands : (start : words.Start) (lanes : ℕ) → Stands words start lanes first.desk (puts_at first.put.items) → Stands words start lanes side.desk (puts_at side.put.items)
 
 -- all its passes have ended, and it met the end mark of each lane
 pub record IsOver {T : Type 0} (side : WorkerSide T) : Type 0 where

@@ -28,8 +28,8 @@ pub struct Served<T, L> {
     pub endpoints: Vec<T>,
     /// The lanes, in their order.
     pub lanes: Vec<L>,
-    /// How the ports ended. `NoMem` if memory ran out, before the threads started or for a lane, or if an endpoint lost a reply or
-    /// came to no end. All links are closed then.
+    /// How the ports ended. `NoMem` if memory ran out, before the threads started or for a lane; or if an endpoint has no end, or lost
+    /// a reply. That is one for which memory ran out, or to no connection. All links are closed then.
     pub end: Result<PortsEnd, NoMem>,
 }
 
@@ -97,7 +97,7 @@ fn any_stopped(stops: &[bool]) -> bool
 fn stop_one<T: Endpoint>(endpoint: &mut T, stopped: bool)
     requires begun { stopped ≡ false → (start : T.Start) × (gave : ℕ → List Job) × (took : List Reply) × T.made_by start endpoint.old gave took }
     ensures kept { stopped ≡ true → endpoint.new ≡ endpoint.old }
-    ensures put { stopped ≡ false → T.tells → (start : T.Start) (gave : ℕ → List Job) (took : List Reply) → T.made_by start endpoint.old gave took → PutsPrefixes (T.number endpoint.old) gave (λ lane. took) (T.begun start) (T.view endpoint.new) }
+    ensures put { stopped ≡ false → T.tells → (start : T.Start) (gave : ℕ → List Job) (took : List Reply) → T.made_by start endpoint.old gave took → PutsPrefixes (T.lanes endpoint.old) (T.number endpoint.old) gave (λ lane. took) (T.begun start) (T.view endpoint.new) }
     ensures continues { Continues (T.view endpoint.old).ledger (T.view endpoint.new).ledger }
 {
     if stopped {
@@ -108,8 +108,8 @@ fn stop_one<T: Endpoint>(endpoint: &mut T, stopped: bool)
 
 /// Closes all links of all endpoints, of those that weren't stopped.
 fn stop_all<T: Endpoint>(endpoints: &mut [T], stops: &[bool])
-    requires ends { (starts : ℕ → T.Start) × (gave : ℕ → ℕ → List Job) × (took : ℕ → List Reply) × AreAtEnd ⟦<T as Endpoint>⟧ starts endpoints.old stops.now gave took }
-    ensures stopped { (starts : ℕ → T.Start) (gave : ℕ → ℕ → List Job) (took : ℕ → List Reply) → AreAtEnd ⟦<T as Endpoint>⟧ starts endpoints.old stops.now gave took → AreStopped ⟦<T as Endpoint>⟧ starts endpoints.new gave took (length endpoints.new) }
+    requires ends { (starts : ℕ → T.Start) × (lanes : ℕ) × (gave : ℕ → ℕ → List Job) × (took : ℕ → List Reply) × AreAtEnd ⟦<T as Endpoint>⟧ starts lanes endpoints.old stops.now gave took }
+    ensures stopped { (starts : ℕ → T.Start) (lanes : ℕ) (gave : ℕ → ℕ → List Job) (took : ℕ → List Reply) → AreAtEnd ⟦<T as Endpoint>⟧ starts lanes endpoints.old stops.now gave took → AreStopped ⟦<T as Endpoint>⟧ starts lanes endpoints.new gave took (length endpoints.new) }
     ensures keep { KeepPorts T.view endpoints.old endpoints.new }
     ensures count { length endpoints.new ≡ length endpoints.old }
 {
@@ -132,11 +132,11 @@ fn whole_end<T: Endpoint>(endpoints: &[T], stops: &[bool], failed: bool) -> Opti
 
 /// How the ports of these endpoints ended, if nothing was lost. Otherwise all links are closed.
 fn close<T: Endpoint>(endpoints: &mut [T], stops: &[bool], failed: bool) -> Result<PortsEnd, NoMem>
-    requires ends { (starts : ℕ → T.Start) × (gave : ℕ → ℕ → List Job) × (took : ℕ → List Reply) × AreAtEnd ⟦<T as Endpoint>⟧ starts endpoints.old stops.now gave took }
+    requires ends { (starts : ℕ → T.Start) × (lanes : ℕ) × (gave : ℕ → ℕ → List Job) × (took : ℕ → List Reply) × AreAtEnd ⟦<T as Endpoint>⟧ starts lanes endpoints.old stops.now gave took }
     ensures whole { (end : PortsEnd) → result ≡ Ok end → (failed ≡ false) × ((w : ℕ) → slice_index_or stops.now w false ≡ false) × (endpoints.new ≡ endpoints.old) }
     ensures over { (end : PortsEnd) → result ≡ Ok end → (starts : ℕ → T.Start) (gave : ℕ → ℕ → List Job) (took : ℕ → List Reply) → AreMade T.made_by starts endpoints.old gave took →
         AreOver T.tells T.number T.lanes T.begun T.view starts endpoints.old gave took (length endpoints.old) end }
-    ensures stopped { OnErr result ((starts : ℕ → T.Start) (gave : ℕ → ℕ → List Job) (took : ℕ → List Reply) → AreAtEnd ⟦<T as Endpoint>⟧ starts endpoints.old stops.now gave took → AreStopped ⟦<T as Endpoint>⟧ starts endpoints.new gave took (length endpoints.new)) }
+    ensures stopped { OnErr result ((starts : ℕ → T.Start) (lanes : ℕ) (gave : ℕ → ℕ → List Job) (took : ℕ → List Reply) → AreAtEnd ⟦<T as Endpoint>⟧ starts lanes endpoints.old stops.now gave took → AreStopped ⟦<T as Endpoint>⟧ starts lanes endpoints.new gave took (length endpoints.new)) }
     ensures keep { KeepPorts T.view endpoints.old endpoints.new }
     ensures count { length endpoints.new ≡ length endpoints.old }
 {
@@ -187,7 +187,8 @@ fn break_off<T: Endpoint, L: Lane>(endpoints: Vec<T>, lanes: Vec<L>) -> Served<T
 /// Serves what comes at these endpoints, 1 to 64, each numbered by its place, by turns of these lanes, 1 to 8: a thread for
 /// each endpoint and for each lane, but lane 0 in the caller's. `bells` end the waits of the endpoints' ports, in their order.
 /// It returns after each endpoint came to its end, or was stopped. If no thread can be made for one, the caller's thread turns it too.
-/// If memory runs out, for the threads or for a lane, all links are closed: nothing was put on them but prefixes of the answers.
+/// The end is an Err if memory ran out, for the threads or for a lane. It is one too if an endpoint has no end, or lost a reply,
+/// be it one to no connection. All links are closed then: nothing was put on them but prefixes of the answers.
 pub fn serve_threads<
     T: Endpoint + Send + Drop,
     L: Lane + Send + Drop,

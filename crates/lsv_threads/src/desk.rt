@@ -108,7 +108,7 @@ impl<T: Endpoint> Desk<T> {
         ensures stopped { self.new.stopped ≡ true }
         ensures same { IsSameDesk ⟦<T as Endpoint>⟧ self.old self.new }
         ensures taken { self.new.taken ≡ self.old.taken }
-        ensures stands { (start : T.Start) (gave : ℕ → List Job) → Stands ⟦<T as Endpoint>⟧ start self.old gave → Stands ⟦<T as Endpoint>⟧ start self.new gave }
+        ensures stands { (start : T.Start) (lanes : ℕ) (gave : ℕ → List Job) → Stands ⟦<T as Endpoint>⟧ start lanes self.old gave → Stands ⟦<T as Endpoint>⟧ start lanes self.new gave }
     {
         self.stopped = true;
         self.endpoint.stop();

@@ -16,6 +16,7 @@ close-end-requires g c =
     record {
       ends = (
         b.0,
+        b.3,
         gave g.T.Endpoint g.L.Lane b.0 b.1 b.2 b.3 c.deref_mut.result.now c.deref.result.now r.lanes.items r.failed t,
         took g.T.Endpoint g.L.Lane b.0 b.1 b.2 b.3 c.deref_mut.result.now c.deref.result.now r.lanes.items r.failed t,
         at_end g.T.Endpoint g.L.Lane b.0 b.1 b.2 b.3 c.deref_mut.result.now c.deref.result.now r.lanes.items r.failed t,
@@ -36,5 +37,5 @@ returns g c = λ starts begins olds count turned.
     subst (λ x. AreServed g.T.Endpoint g.L.Lane starts begins olds count x r.lanes.items c.close-end.result) (sym (written r.endpoints.len news _ (let d = r.endpoints.ok.0 in omega (arith, d, size))))
     (ran_served g.T.Endpoint g.L.Lane starts begins olds count c.deref_mut.result.now c.deref.result.now r.lanes.items r.failed t news c.close-end.result c.close-end.ensures.count c.close-end.ensures.keep c.close-end.ensures.whole
     (λ e is. c.close-end.ensures.over e is starts jobs replies)
-    (λ why is. on_err ((s : ℕ → g.T.Endpoint.Start) (j : ℕ → ℕ → List Job) (p : ℕ → List Reply) → AreAtEnd g.T.Endpoint s c.deref_mut.result.now c.deref.result.now j p → AreStopped g.T.Endpoint s news j p (length news))
-    c.close-end.result c.close-end.ensures.stopped why is starts jobs replies ends))
+    (λ why is. on_err ((s : ℕ → g.T.Endpoint.Start) (n : ℕ) (j : ℕ → ℕ → List Job) (p : ℕ → List Reply) → AreAtEnd g.T.Endpoint s n c.deref_mut.result.now c.deref.result.now j p → AreStopped g.T.Endpoint s n news j p (length news))
+    c.close-end.result c.close-end.ensures.stopped why is starts count jobs replies ends))

@@ -9,5 +9,5 @@ abbrev pub invariant-stops : goal.invariant-stops
 invariant-stops g l = record {
   later : (w : ℕ) (endpoint : g.row.T.Denot) → l.place ≤ w → slice_get l.endpoints w ≡ Some endpoint → slice_get l.fn.endpoints w ≡ Some endpoint;
   keep : KeepPorts g.T.Endpoint.view l.fn.endpoints l.endpoints;
-  stopped : (starts : ℕ → g.T.Endpoint.Start) (gave : ℕ → ℕ → List Job) (took : ℕ → List Reply) → AreAtEnd g.T.Endpoint starts l.fn.endpoints l.stops gave took → AreStopped g.T.Endpoint starts l.endpoints gave took l.place;
+  stopped : (starts : ℕ → g.T.Endpoint.Start) (lanes : ℕ) (gave : ℕ → ℕ → List Job) (took : ℕ → List Reply) → AreAtEnd g.T.Endpoint starts lanes l.fn.endpoints l.stops gave took → AreStopped g.T.Endpoint starts lanes l.endpoints gave took l.place;
 }

@@ -1,4 +1,4 @@
-use Rattle.std.proofs.Common.{List, refl, sym, ap, subst}
+use Rattle.std.proofs.Common.{List, refl, sym, ap, subst, ◌∙◌}
 use Rattle.lsv_queue.specs.Passes.{items_of}
 use Rattle.lsv_session.specs.declared.reply.Reply.{Reply}
 use Rattle.lsv_links.specs.Turns.{replies_to}
@@ -17,7 +17,8 @@ returns-then-reply-self g c = record {
   on = record {
     same = record { number_is = refl; endpoint_number = λ e. c.take.ensures.number; endpoint_lanes = λ e. c.take.ensures.lanes; queue = c.get.ensures.queue; joined = c.get.ensures.joined; stays = λ e. e; continues = c.take.ensures.continues };
     stopped = refl;
-    stands = λ start gave s. record {
+    stands = λ start lanes gave s. record {
+      lanes_are = λ e. c.take.ensures.lanes ∙ s.lanes_are e;
       made = λ e.
           subst (λ (l : List Reply). g.T.Endpoint.made_by start c.take.new.self gave l) (sym (heard_own c.args.self.now.number (items_of c.args.self.now.taken.taken.got) (items_of c.get.new.pass.taken.got) c.in-Ok.reply c.in-Ok.ensures.items c.if-reply-self.true))
           (c.take.ensures.made start gave (heard c.args.self.now) (s.made e));

@@ -1,4 +1,4 @@
-use Rattle.std.proofs.Common.{[], refl}
+use Rattle.std.proofs.Common.{[], refl, ◌∙◌}
 use Rattle.lsv_threads.specs.Desks.{heard}
 use Rattle.lsv_threads.proofs.desk.Desk.push.Goals as goal
 
@@ -10,7 +10,8 @@ returns-clause-on g c = record {
   same = record { number_is = refl; endpoint_number = λ e. c.push.ensures.number; endpoint_lanes = λ e. c.push.ensures.lanes; queue = refl; joined = refl; stays = λ e. e; continues = c.push.ensures.continues };
   taken = refl;
   stopped = refl;
-  stands = λ start s. record {
+  stands = λ start lanes s. record {
+    lanes_are = λ e. c.push.ensures.lanes ∙ s.lanes_are e;
     made = λ e. c.push.ensures.made start (λ lane. []) (heard c.args.self.now) (s.made e);
     put = λ e. absurd (cc (e, c.requires.going));
   };
