@@ -1,5 +1,10 @@
 //! A lane that answers by fixed rules and keeps all jobs.
 
+ghost use Rattle.std.specs.Prelude.{◌≡◌, false, OnOk};
+ghost use Rattle.lsv_session.specs.Connections.{same};
+ghost use Rattle.lsv_session.specs.declared.connection.ConnId.{ConnId};
+ghost use Rattle.lsv_turn.specs.Turns.{NoneFor};
+
 use lsv_base::{Bytes, NoMem, TimeSpec};
 use lsv_msg::{ClientMessage, ServerMessage};
 use lsv_queue::Gap;
@@ -42,8 +47,10 @@ impl Answering {
         Ok(ServerMessage::Error(Bytes::of(self.alloc, text)?))
     }
 
-    /// Shuts a connection, once.
-    fn shut(&mut self, conn: ConnId, last: bool, replies: &mut Vec<Reply>) -> Result<(), NoMem> {
+    /// Shuts a connection, once. It replies to no other.
+    fn shut(&mut self, conn: ConnId, last: bool, replies: &mut Vec<Reply>) -> Result<(), NoMem>
+        ensures to_it { OnOk result ((k : ConnId) → same conn k ≡ false → NoneFor k replies.old.items → NoneFor k replies.new.items) }
+    {
         if self.shut.contains(&conn.seq) {
             return Ok(());
         }
@@ -56,8 +63,10 @@ impl Answering {
         Ok(())
     }
 
-    /// Answers a job.
-    fn judge(&mut self, job: &Job, replies: &mut Vec<Reply>) -> Result<(), NoMem> {
+    /// Answers a job. It replies to the job's connection alone.
+    fn judge(&mut self, job: &Job, replies: &mut Vec<Reply>) -> Result<(), NoMem>
+        ensures to_it { OnOk result ((k : ConnId) → same job.now.conn k ≡ false → NoneFor k replies.old.items → NoneFor k replies.new.items) }
+    {
         match &job.body {
             Body::Msg(ClientMessage::Ttyout(shown)) => {
                 if !self.shut.contains(&job.conn.seq) {
@@ -88,6 +97,7 @@ impl Lane for Answering {
         _gap: Option<Gap<Job>>,
         replies: &mut Vec<Reply>,
     ) -> Result<TimeSpec, NoMem> {
+        replies.clear();
         for job in &jobs {
             self.judge(job, replies)?;
         }
