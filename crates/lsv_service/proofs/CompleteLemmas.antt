@@ -1,7 +1,8 @@
 -- A legal conversation over a link of a server is served, where nothing is in its way.
 use Rattle.std.proofs.Common.{◌≡◌, ◌≤◌, ◌<◌, ◌+◌, ◌-◌, ◌^◌, ℕ, List, [], ◌∷◌, ◌++◌, map, refl, sym, ◌∙◌, ap, subst, inl, inr, arith, Option, Some, None, append-nil}
-use Rattle.std.specs.Prelude.{◌||◌, ◌%◌, Bool, true, false, nat_lt, Contains}
+use Rattle.std.specs.Prelude.{◌==◌, ◌⊎◌, ◌||◌, ◌*◌, ◌%◌, Bool, true, false, if◌then◌else◌, nat_lt, Contains}
 use Rattle.std.proofs.lemmas.Bool.Decides.{nat_tests}
+use Rattle.std.proofs.Math.Nat.{add-mul}
 use Rattle.std.proofs.lemmas.List.Elements.{Contains-append_left, Contains-append_right, Contains-push}
 use Rattle.lsv_defs.specs.Causes.{HasRisen}
 use Rattle.lsv_disk.specs.Files.{file_of}
@@ -27,13 +28,14 @@ use Rattle.lsv_session.proofs.Jobs.{one_list}
 use Rattle.lsv_machine.specs.Counts.{Counts, IsCounted, all_parts, failed_in, failures, faults_among, is_among, one_if, same_owner}
 use Rattle.lsv_machine.specs.Failures.{Act}
 use Rattle.lsv_machine.specs.Legal.{IsLegal, all_answers, told_of, whole_log}
-use Rattle.lsv_machine.specs.Machine.{LogState, Machine, Settings}
+use Rattle.lsv_machine.specs.Machine.{IsOfLane, LogState, Machine, Settings}
 use Rattle.lsv_machine.specs.Recovery.{Turn, all_turns}
 use Rattle.lsv_machine.specs.Silence.{EndsWithGone}
 use Rattle.lsv_machine.specs.Starts.{ReadsAs}
 use Rattle.lsv_machine.specs.Turns.{Happened, Happened.Tailed, all_acted}
+use Rattle.lsv_machine.proofs.Choices.{EqOr.equal, EqOr.unequal, eq_or}
 use Rattle.lsv_progress.specs.Among as among
-use Rattle.lsv_progress.specs.Among.{FitsAmong, IsServedAmong, IsUndisturbed, came_of}
+use Rattle.lsv_progress.specs.Among.{FitsAmong, IsServedAmong, IsUndisturbed, MayGet, asked_before, came_of}
 use Rattle.lsv_progress.proofs.Served.{served_among}
 use Rattle.lsv_keeper.specs.Reading.{IsDrawn}
 use Rattle.lsv_turn.specs.Turns.{LaneTurn, jobs_in, replies_in, shuts}
@@ -132,6 +134,26 @@ one_last lane lanes image a b (inl p) (inr q) = absurd (no_entry (an_entry lane 
 one_last lane lanes image a b (inr p) (inl q) = absurd (no_entry (an_entry lane lanes b) (entry_at lane image) q p.0)
 one_last lane lanes image a b (inr p) (inr q) = p.1 ∙ sym q.1
 
+-- a number that the connection's log may get is of the lane
+may_get_own : (set : Settings) (m : Machine) (asked n : ℕ) → (m.last ≡ 0) ⊎ IsOfLane set.lane set.lanes m.last → MayGet set m asked n → IsOfLane set.lane set.lanes n
+may_get_own set m asked n drawn g = elim (eq_or m.last 0) [
+  | equal p t ↦ (g.passed, g.is ∙ first_is t)
+  | unequal p t ↦ elim drawn [
+    | inl none ↦ absurd (p none)
+    | inr (steps, at) ↦
+        let e : n ≡ m.last + set.lanes + g.passed * set.lanes = g.is ∙ next_is t in
+        let a : (steps + 1 + g.passed) * set.lanes ≡ (steps + 1) * set.lanes + g.passed * set.lanes = add-mul (steps + 1) g.passed set.lanes in
+        let b : (steps + 1) * set.lanes ≡ steps * set.lanes + 1 * set.lanes = add-mul steps 1 set.lanes in
+        (steps + 1 + g.passed, omega arith)
+  ]
+]
+  where
+    first_is : (m.last == 0) ≡ true → (if m.last == 0 then set.lane + 1 else m.last + set.lanes) + g.passed * set.lanes ≡ set.lane + 1 + g.passed * set.lanes
+    first_is t = rw t refl
+
+    next_is : (m.last == 0) ≡ false → (if m.last == 0 then set.lane + 1 else m.last + set.lanes) + g.passed * set.lanes ≡ m.last + set.lanes + g.passed * set.lanes
+    next_is t = rw t refl
+
 -- ---- A link
 
 -- memory didn't run out where its bytes were cut into jobs
@@ -223,6 +245,7 @@ module _ (disk_tells : Type 0) (set : Settings) (texts : List (List ℕ)) (found
     n,
     record {
       came = came_is ∙ ap (λ (bs : List Body). bs ++ body.Gone ∷ []) all_heard;
+      own = may_get_own set start (asked_before k (all_turns turns)) done.0 conforms.ran.starts.drawn done.1.number;
       above = λ last drawn. subst (λ (x : ℕ). x < n) (one_last set.lane set.lanes found.reads start.last last conforms.ran.drawn drawn) done.1.above;
       within = (u.fits n done.1.number).number;
       said = said_is;

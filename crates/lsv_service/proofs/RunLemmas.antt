@@ -33,12 +33,12 @@ mid_at {T} olds mids i old count was =
     let less : i < length olds = slice_get_within olds i old was in
     (get_or mids i old, slice_get-get_or mids i old (omega (arith, less, count)))
 
--- ---- One post after another begins to listen
+-- ---- One endpoint after another begins to listen
 
 some_one : {T : Type 0} (x y : T) → Some x ≡ Some y → x ≡ y
 some_one {T} x y e = cc
 
--- what is said of each post, where one was written
+-- what is said of each endpoint, where one was written
 pub set_all : {T : Type 0} (P : ℕ → T → Type 0) (posts : List T) (place : ℕ) (y : T) → place < length posts → P place y → ((i : ℕ) (post : T) → slice_get posts i ≡ Some post → P i post) → (i : ℕ) (post : T) → slice_get (set posts place y) i ≡ Some post → P i post
 set_all {T} P posts place y less at all i z e = elim (eq_or i place) [
   | equal p t ↦
@@ -76,7 +76,7 @@ listen_on {T} view asked olds mids news count at keep i old new was is =
 
 -- the stores of all lanes were opened
 pub leaves_links : {T : Type 0} (words : Endpoint.Ghosts T) (lane_tells : Type 0) (lanes : ℕ) (starts : ℕ → words.Start) (asked : Listening) (olds news : List T) (turns : ℕ → List LaneTurn) (end : Result PortsEnd OutOfMemory)
-    → (words.tells → ListenAt words.view asked olds news) → ((ports : PortsEnd) → end ≡ Ok ports → ServesLanes words lane_tells lanes starts news turns ports) → ((why : OutOfMemory) → end ≡ Err why → PutsLanes words starts news turns)
+    → (words.tells → ListenAt words.view asked olds news) → ((ports : PortsEnd) → end ≡ Ok ports → ServesLanes words lane_tells lanes starts news turns ports) → ((why : OutOfMemory) → end ≡ Err why → PutsLanes words lanes starts news turns)
     → LeavesLinks words lane_tells lanes starts asked olds news turns (end_of_serving end)
 leaves_links words lane_tells lanes starts asked olds news turns (Ok ports) at ended broken = (at, ended ports refl)
 leaves_links words lane_tells lanes starts asked olds news turns (Err why) at ended broken = inr (at, broken why refl)

@@ -19,7 +19,7 @@ use Rattle.lsv_session.specs.declared.job.Fault.TheVariants as fault
 use Rattle.lsv_machine.specs.Answers.{Saying, body_of}
 use Rattle.lsv_machine.specs.Failures.{Act, WantsMemory}
 use Rattle.lsv_machine.specs.Legal.{IsLegal, told_of, whole_log}
-use Rattle.lsv_machine.specs.Machine.{Machine, Settings}
+use Rattle.lsv_machine.specs.Machine.{IsOfLane, Machine, Settings}
 use Rattle.lsv_machine.specs.Recovery.{Story, Turn}
 use Rattle.lsv_machine.specs.Work.{last_number}
 use Rattle.lsv_progress.specs.Among.{FitsAmong}
@@ -75,7 +75,9 @@ answers_of sayings = frame_of (server_bytes server_hello) ++ frames_of (messages
 pub record IsServedBy (set : Settings) (texts : List (List ℕ)) (found left : DiskView) (k : ConnId) (link : LinkState) (failed : Type 0) (turns : List LaneTurn) (bodies : List Body) (n : ℕ) : Type 0 where
   -- all of it came, and then the connection's end
   pub came : bodies_of k (jobs_in turns) ≡ bodies ++ Gone ∷ []
-  -- the number is above the last one that was drawn before the run
+  -- the number is one of the lane, so the log is of its store
+  pub own : IsOfLane set.lane set.lanes n
+  -- it is above the last one that was drawn before the run
   pub above : (last : ℕ) → IsDrawn set.lane set.lanes found.reads last → last < n
   -- and at most the last number of a log
   pub within : n ≤ last_number

@@ -44,11 +44,12 @@ OpensSome (Over ports) lanes opened = opened ≡ lanes
 OpensSome (Store fault) lanes opened = opened < lanes
 OpensSome NoMem lanes opened = opened ≤ lanes
 
--- how the run of an opened lane ended. If another lane's store couldn't be opened, it ended without a turn
+-- How the run of an opened lane ended, as its store is described: at each end of the run it was opened. If another lane's store
+-- couldn't be opened, it ended without a turn.
 abbrev pub end_of_open : End → End
 end_of_open (Over ports) = Over ports
 end_of_open (Store fault) = Over Stopped
-end_of_open NoMem = NoMem
+end_of_open NoMem = Over Stopped
 
 -- the store of this lane wasn't opened, for a cause, or for want of memory; and if for a cause, its tape is as it was
 pub record IsUnopened (disk_tells tape_tells : Type 0) (set : Settings) (texts : List (List ℕ)) (lane lanes : ℕ) (found left : BayView) (end : End) : Type 0 where
@@ -80,14 +81,15 @@ pub record RunsLanes {X : Type 0} (view : X → BayView) (disk_tells tape_tells 
 
 -- What endpoints did whose run came to no end of its own, out of memory: none did anything, and no turn was made. Or each listened at
 -- this, the turns' jobs are the first of what was read, and nothing was put but prefixes of their answers.
-abbrev pub BreaksOff : {T : Type 0} (words : Endpoint.Ghosts T) (starts : ℕ → words.Start) (asked : Listening) (olds news : List T) (turns : ℕ → List LaneTurn) → Type 0
-BreaksOff words starts asked olds news turns = (((l : ℕ) → turns l ≡ []) × (news ≡ olds)) ⊎ ((words.tells → ListenAt words.view asked olds news) × PutsLanes words starts news turns)
+abbrev pub BreaksOff : {T : Type 0} (words : Endpoint.Ghosts T) (lanes : ℕ) (starts : ℕ → words.Start) (asked : Listening) (olds news : List T) (turns : ℕ → List LaneTurn) → Type 0
+BreaksOff words lanes starts asked olds news turns = (((l : ℕ) → turns l ≡ []) × (news ≡ olds)) ⊎ ((words.tells → ListenAt words.view asked olds news) × PutsLanes words lanes starts news turns)
 
--- What the endpoints did, by how the run ended: each listened on this, and all links were served by the turns; or a store couldn't be opened, and they did nothing
+-- What the endpoints did, by how the run ended. Each listened on this, and all links were served by the turns; out of memory they
+-- were served up to some point. If a store couldn't be opened, the endpoints did nothing.
 abbrev pub LeavesLinks : {T : Type 0} (words : Endpoint.Ghosts T) (lane_tells : Type 0) (lanes : ℕ) (starts : ℕ → words.Start) (asked : Listening) (olds news : List T) (turns : ℕ → List LaneTurn) → End → Type 0
 LeavesLinks words lane_tells lanes starts asked olds news turns (Over ports) = (words.tells → ListenAt words.view asked olds news) × ServesLanes words lane_tells lanes starts news turns ports
 LeavesLinks words lane_tells lanes starts asked olds news turns (Store fault) = news ≡ olds
-LeavesLinks words lane_tells lanes starts asked olds news turns NoMem = BreaksOff words starts asked olds news turns
+LeavesLinks words lane_tells lanes starts asked olds news turns NoMem = BreaksOff words lanes starts asked olds news turns
 
 -- What came of a run: these turns of each lane describe its stores and its links
 pub record RunsServer {T X : Type 0} (words : Endpoint.Ghosts T) (view : X → BayView) (disk_tells tape_tells : Type 0) (set : ℕ → Settings) (texts : List (List ℕ)) (lanes : ℕ) (starts : ℕ → words.Start) (asked : Listening) (olds news : List T) (bays bays' : List X) (end : End) : Type 0 where

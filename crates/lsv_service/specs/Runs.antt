@@ -40,7 +40,7 @@ pub record RunsStore (disk_tells tape_tells : Type 0) (set : Settings) (texts : 
 abbrev pub ListenFailed : PortView → PortView → Type 0
 ListenFailed old new = HasRisen old.ledger.deaf new.ledger.deaf
 
--- The port of each of these posts was asked to listen on this, once, when it had made no turn that it hadn't made before. Or it
+-- The port of each of these endpoints was asked to listen on this, once, when it had made no turn that it hadn't made before. Or it
 -- couldn't listen, and noted nothing.
 abbrev pub ListenAt : {T : Type 0} (view : T → PortView) (asked : Listening) (olds news : List T) → Type 0
 ListenAt {T} view asked olds news = (i : ℕ) (old new : T) → slice_get olds i ≡ Some old → slice_get news i ≡ Some new → WasAsked asked (ListenFailed (view old) (view new)) (view old).ledger (view new).ledger

@@ -423,7 +423,8 @@ fn serve_bays<
 ///
 /// The stores are opened in the lanes' order. If all are open, each endpoint begins to listen at the address of the site, and then
 /// it is served in a thread, as each lane is. `bells` end the waits of the endpoints' ports, in their order. Nothing else changes the
-/// stores meanwhile.
+/// stores meanwhile. The disks of the bays may be one folder, since each lane touches files of its own alone (`lanes_keep_apart`).
+/// What is said of a lane's disk is then meant of the lane's own files: others may change beside it.
 ///
 /// `End::Store` is the fault of the first store that couldn't be opened; then no endpoint did anything. Out of memory, the jobs of
 /// the turns are the first of what was read of the links, and nothing was put on a link but prefixes of the answers by the turns
