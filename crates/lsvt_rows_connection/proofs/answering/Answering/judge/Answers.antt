@@ -6,5 +6,5 @@ use Rattle.lsvt_rows_connection.proofs.answering.Answering.judge.Goals as goal
 
 pub returns-in_ok-push-in-Msg-Ttyout : goal.returns-in_ok-push-in-Msg-Ttyout
 returns-in_ok-push-in-Msg-Ttyout c = record {
-  to_it = λ k ne none. subst (λ (rs : List Reply). NoneFor k rs) (sym c.in_ok-push-in-Msg-Ttyout.ensures.items) (none_more k c.args.replies.now.items _ none ne)
+  to_it = λ k ne none. subst (λ (rs : List Reply). NoneFor k rs) (sym c.in_ok-push-in-Msg-Ttyout.ensures.items) (none_more k c.args.replies.now.items _ none ne);
 }

@@ -6,5 +6,5 @@ use Rattle.lsvt_rows_connection.proofs.answering.Answering.shut.Goals as goal
 
 pub returns : goal.returns
 returns c = record {
-  to_it = λ k ne none. subst (λ (rs : List Reply). NoneFor k rs) (sym c.in_ok-push-2.ensures.items) (none_more k c.args.replies.now.items _ none ne)
+  to_it = λ k ne none. subst (λ (rs : List Reply). NoneFor k rs) (sym c.in_ok-push-2.ensures.items) (none_more k c.args.replies.now.items _ none ne);
 }
