@@ -32,7 +32,7 @@ use Rattle.lsv_machine.specs.Turns.{Happened.Did}
 use Rattle.lsv_machine.specs.Work.{Done, adds_line, draws, fits_file, last_number, line_fits, line_in, lined, makes, opened, opens, refused, work}
 use Rattle.lsv_machine.proofs.Weaken.{Lower}
 use Rattle.lsv_machine.proofs.Choices.{EqOr.equal, EqOr.unequal, eq_or}
-use Rattle.lsv_keeper.specs.declared.told.Told.TheVariants as told
+use Rattle.lsv_keeper.specs.declared.outcome.Outcome.TheVariants as outcome
 use Rattle.lsv_keeper.specs.Accepting.{Begun, Making, MakingIf, Stopped, StopsFor, accept_of}
 use Rattle.lsv_keeper.specs.Reading.{reading_of}
 use Rattle.lsv_keeper.specs.Rows.{AllRose, Beside, Left, RowGives, RowIs}
@@ -148,7 +148,7 @@ making_ends v i head act m old new making ends = record {
 
 -- an accept that stopped short: its connection is refused
 pub stopped_row : (v v1 v2 : KeeperView) (old mid new : DiskView) (now : TimeSpec) (job : Job) (head : Head) (m : Machine) (why : Refusal) → Laws old → Laws mid → Keeps v v1 → is_running (m.states job.conn) ≡ false
-    → AsksFor (m.states job.conn) job.body (asked head) → (x : Stopped v now job.conn (m.states job.conn) head m why v1 old mid) → Left job.conn Dead v1 x.left v2 mid new → RowGives v now job (told.Refused why) m v2 old new
+    → AsksFor (m.states job.conn) job.body (asked head) → (x : Stopped v now job.conn (m.states job.conn) head m why v1 old mid) → Left job.conn Dead v1 x.left v2 mid new → RowGives v now job (outcome.Refused why) m v2 old new
 stopped_row v v1 v2 old mid new now job head m why laws laws1 k r a x left answers tells = elim tells [
   | inr wants ↦ wanting wants
   | inl e ↦ telling why x.reason e
@@ -239,7 +239,7 @@ not_gone s body.Gone what a = absurd a
 
 -- an accept that opened its log
 pub begun_row : (v v' : KeeperView) (old new : DiskView) (now : TimeSpec) (job : Job) (head : Head) (m : Machine) (n : ℕ) (text : List ℕ) → Laws old → is_running (m.states job.conn) ≡ false
-    → AsksFor (m.states job.conn) job.body (asked head) → Begun v now job.conn n head m v' old new → RowGives v now job (told.Log n text) m v' old new
+    → AsksFor (m.states job.conn) job.body (asked head) → Begun v now job.conn n head m v' old new → RowGives v now job (outcome.Log n text) m v' old new
 begun_row v v' old new now job head m n text laws r a x answers e = (
   after,
   acted v now job (Some n) act m after old new laws refl refl

@@ -28,15 +28,15 @@ use Rattle.lsv_session.specs.declared.connection.ConnState.TheVariants.{Running}
 use Rattle.lsv_machine.specs.Machine.{insert_once, log_of, note, same, without, without_conn}
 use Rattle.lsv_machine.proofs.Choices.{EqOr, EqOr.equal, EqOr.unequal, SameOr, SameOr.alike, SameOr.apart, eq_or, same_or, same_refl}
 use Rattle.lsv_keeper.specs.Accepting.{create_refusal, draw_refusal}
-use Rattle.lsv_keeper.specs.Causes.{AnyBringsLine, AnyIsOf, BringsLine, Does, HasFailed, IsAmong, IsOfStore, IsSteady, IsSteadyBut, LetsGo, LinesDo, MayAnswer, MayFail, StoreRose, TellsFault, Waits, is_of}
+use Rattle.lsv_keeper.specs.Causes.{AnyBringsLine, AnyIsOf, BringsLine, Does, HasFailed, IsAmong, IsOfStore, IsSteady, IsSteadyBut, LetsGo, LinesDo, MayAnswer, MayFail, StoreRose, IsFaultRefusal, Waits, is_of}
 use Rattle.lsv_keeper.specs.Leaving.{Departs}
 use Rattle.lsv_keeper.specs.Logs.{IsAppendFault, RefusesRecord, TakesRecord, log_refusal, open_logs, with_open}
 use Rattle.lsv_keeper.specs.Resuming.{restart_refusal}
-use Rattle.lsv_keeper.specs.Rows.{told_of}
+use Rattle.lsv_keeper.specs.Rows.{outcome_of}
 use Rattle.lsv_keeper.specs.Value.{AreLinked, AreWhole, IsReserved, IsResting, KeeperView, Owns, SameSessions, log_in, sessions_of}
 use Rattle.lsv_keeper.specs.declared.logs.OpenLog.{OpenLog}
 use Rattle.lsv_keeper.specs.declared.logs.OpenLogs.{OpenLogs}
-use Rattle.lsv_keeper.specs.declared.told.Told.TheVariants as told
+use Rattle.lsv_keeper.specs.declared.outcome.Outcome.TheVariants as outcome
 use Rattle.lsv_keeper.proofs.Opening.{same_error}
 
 -- ---- Lists
@@ -529,10 +529,10 @@ draw_does f v new a b later failed cause = record {
 
 -- ---- What a job is told
 
-pub refused_is : (why : Refusal) → TellsFault (told.Refused why) → why ≡ DeviceFault
+pub refused_is : (why : Refusal) → IsFaultRefusal (outcome.Refused why) → why ≡ DeviceFault
 refused_is why e = cc
 
-pub told_some : (refused : Option Refusal) → TellsFault (told_of refused) → refused ≡ Some DeviceFault
+pub told_some : (refused : Option Refusal) → IsFaultRefusal (outcome_of refused) → refused ≡ Some DeviceFault
 told_some None e = absurd (cc)
 told_some (Some why) e = ap (λ (w : Refusal). Some w) (refused_is why e)
 

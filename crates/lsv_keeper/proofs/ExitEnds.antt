@@ -39,7 +39,7 @@ use Rattle.lsv_keeper.specs.Rows.{Beside, Left, OwnerRose, RowGives, RowIs}
 use Rattle.lsv_keeper.specs.Value.{Keeps, KeeperView, SameSessions, event_line, log_in, owed, room}
 use Rattle.lsv_keeper.specs.declared.logs.OpenLog.{OpenLog}
 use Rattle.lsv_keeper.specs.declared.logs.OpenLogs.{OpenLogs}
-use Rattle.lsv_keeper.specs.declared.told.Told.TheVariants as told
+use Rattle.lsv_keeper.specs.declared.outcome.Outcome.TheVariants as outcome
 use Rattle.lsv_keeper.proofs.Acting.{OwnIf}
 use Rattle.lsv_keeper.proofs.ExitRows.{SetAlike, beside_end, keeps_ended, keeps_told, let_go_as, row_line_refused, row_log_failed, row_told, says_shut, says_told, told_end}
 use Rattle.lsv_keeper.proofs.ExitSteps.{Exits, exits_log, exits_none, lined_act, plain_too_long}
@@ -66,13 +66,13 @@ module _ (v v1 v2 : KeeperView) (d0 d1 d2 : DiskView) (m : Machine) (now : TimeS
   request_is : request_in job.body ≡ Ok (request.Exit exit)
   request_is = asked_in (m.states job.conn) job.body (request.Exit exit) asks
 
-  pub session_told : LineAdded job.conn (event_line v1.kind now job.conn (request.Exit exit) None) (leaves job.conn Dead m) v1 v2 d2 → RowGives v now job told.Shut m v2 d0 d2
+  pub session_told : LineAdded job.conn (event_line v1.kind now job.conn (request.Exit exit) None) (leaves job.conn Dead m) v1 v2 d2 → RowGives v now job outcome.Shut m v2 d0 d2
   session_told added answers is = subst (λ (said : List Answer). RowIs v now job said m v2 d0 d2) (sym is)
       (row_told v v1 v2 now job exit (say job.conn Shut ∷ []) m m m d0 d1 d2 laws laws' request_is x same l.beside second (says_shut job.conn)
       (λ line. subst (λ (o : Option ℕ). OwnIf v o (lined_act job now (say job.conn Shut ∷ []) line) m d0 d1) (sym none) tt)
       (subst (λ (o : Option ℕ). LineAdded job.conn (event_line v1.kind now job.conn (request.Exit exit) o) (leaves job.conn Dead m) v1 v2 d2) (sym none) added))
 
-  pub session_refused : (why : Refusal) → LineRefused (event_line v1.kind now job.conn (request.Exit exit) None) why (leaves job.conn Dead m) v1 v2 d1 d2 → RowGives v now job (told.Refused why) m v2 d0 d2
+  pub session_refused : (why : Refusal) → LineRefused (event_line v1.kind now job.conn (request.Exit exit) None) why (leaves job.conn Dead m) v1 v2 d1 d2 → RowGives v now job (outcome.Refused why) m v2 d0 d2
   session_refused why not_added = row_line_refused v v1 v2 now job exit (say job.conn Shut ∷ []) m m m d0 d1 d2 laws laws' request_is x same l.beside second why
       (λ answers failed ends. subst (λ (o : Option ℕ). OwnIf v o (act_of job now answers failed) m d0 d1) (sym none) tt)
       (subst (λ (o : Option ℕ). LineRefused (event_line v1.kind now job.conn (request.Exit exit) o) why (leaves job.conn Dead m) v1 v2 d1 d2) (sym none) not_added)
@@ -141,7 +141,7 @@ module _ (v v1 : KeeperView) (d0 d1 : DiskView) (m : Machine) (n : ℕ) (now : T
 
   -- it ended
   pub log_told : (v2 : KeeperView) (d2 : DiskView) (point : ℕ) → AllSet → point ≡ its.log.elapsed → Beside v1.lane v1.lanes None d1 d2
-      → ((y : Machine) → Represents v1 d1 y → LineAdded job.conn (event_line v1.kind now job.conn (request.Exit exit) (Some n)) y v1 v2 d2) → RowGives v now job (told.Finished point) m v2 d0 d2
+      → ((y : Machine) → Represents v1 d1 y → LineAdded job.conn (event_line v1.kind now job.conn (request.Exit exit) (Some n)) y v1 v2 d2) → RowGives v now job (outcome.Finished point) m v2 d0 d2
   log_told v2 d2 point all point_is second added answers is =
       let time : point ≡ elapsed (all_of h.value) = point_is ∙ ap (λ (o : OpenLog). o.log.elapsed) (sym same_its) ∙ h.represents.time in
       subst (λ (said : List Answer). RowIs v now job said m v2 d0 d2) (sym (is ∙ ap (told_end job.conn) time))
@@ -154,7 +154,7 @@ module _ (v v1 : KeeperView) (d0 d1 : DiskView) (m : Machine) (n : ℕ) (now : T
 
   -- its line was refused
   pub log_line_refused : (v2 : KeeperView) (d2 : DiskView) (why : Refusal) → AllSet → Beside v1.lane v1.lanes None d1 d2
-      → ((y : Machine) → Represents v1 d1 y → LineRefused (event_line v1.kind now job.conn (request.Exit exit) (Some n)) why y v1 v2 d1 d2) → RowGives v now job (told.Refused why) m v2 d0 d2
+      → ((y : Machine) → Represents v1 d1 y → LineRefused (event_line v1.kind now job.conn (request.Exit exit) (Some n)) why y v1 v2 d1 d2) → RowGives v now job (outcome.Refused why) m v2 d0 d2
   log_line_refused v2 d2 why all second not_added =
       row_line_refused v v1 v2 now job exit (told_end job.conn (elapsed (all_of h.value))) (with_log n (There (with_exit (exit_text exit) (flushed h.value)) (length (all_of h.value))) m)
       (with_log n (There (with_exit (exit_text exit) (flushed h.value)) h.promised) m) m d0 d1 d2 laws laws' log_request log_x set_alike first second why
@@ -164,14 +164,14 @@ module _ (v v1 : KeeperView) (d0 d1 : DiskView) (m : Machine) (n : ℕ) (now : T
       (not_added (leaves job.conn Dead (with_log n (There (with_exit (exit_text exit) (flushed h.value)) h.promised) m)) (stands_set all)))
 
   -- it failed
-  pub log_failed : OwnerRose (owners.Log its.log.number) d0 d1 → RowGives v now job (told.Refused refusals.DeviceFault) m v1 d0 d1
+  pub log_failed : OwnerRose (owners.Log its.log.number) d0 d1 → RowGives v now job (outcome.Refused refusals.DeviceFault) m v1 d0 d1
   log_failed rose = row_log_failed v v1 d0 d1 m n now job exit laws laws' at log_alive asks state log_request h moments ends.monotone
       (subst (λ (y : ℕ). OwnerRose (owners.Log y) d0 d1) (ap (λ (o : OpenLog). o.log.number) (sym same_its) ∙ h.number) rose) fits d open_ones
 
 -- its exit doesn't fit its file
 pub log_full : (v v' : KeeperView) (old new : DiskView) (m : Machine) (n : ℕ) (now : TimeSpec) (job : Job) (exit : Exit) (its : OpenLog) → Laws old → Represents v old m
     → AsksFor (m.states job.conn) job.body (request.Exit exit) → log_of (m.states job.conn) ≡ Some n → log_in v n ≡ Some its → IsFull its.log.bundle parts.Exit (length (exit_text exit))
-    → Left job.conn Dead v m v' old new → RowGives v now job (told.Refused refusals.LogFull) m v' old new
+    → Left job.conn Dead v m v' old new → RowGives v now job (outcome.Refused refusals.LogFull) m v' old new
 log_full v v' old new m n now job exit its laws at asks state here full l =
     refused_row v v' now job refusals.LogFull m old new laws at (alive_of (m.states job.conn) n state) refl
     (λ i. plain_too_long v now job exit n i held.promised (flushed held.value) m (alive_of (m.states job.conn) n state) asks state held.there too_long) l
@@ -185,7 +185,7 @@ log_full v v' old new m n now job exit its laws at asks state here full l =
 
 -- memory ran out for its text
 pub log_wants : (v v' : KeeperView) (old new : DiskView) (m : Machine) (n : ℕ) (now : TimeSpec) (job : Job) (exit : Exit) → Laws old → Represents v old m
-    → AsksFor (m.states job.conn) job.body (request.Exit exit) → log_of (m.states job.conn) ≡ Some n → Left job.conn Dead v m v' old new → RowGives v now job (told.Refused refusals.OutOfMemory) m v' old new
+    → AsksFor (m.states job.conn) job.body (request.Exit exit) → log_of (m.states job.conn) ≡ Some n → Left job.conn Dead v m v' old new → RowGives v now job (outcome.Refused refusals.OutOfMemory) m v' old new
 log_wants v v' old new m n now job exit laws at asks state l =
     wanting_row v v' now job m old new laws at (alive_of (m.states job.conn) n state) (asks_stays (m.states job.conn) job.body (request.Exit exit) asks) l
 
@@ -228,7 +228,7 @@ set_by v v1 k = record { lane = k.lane; lanes = k.lanes; log_exit = k.log_exit; 
 pub log_not_ended : (v v' : KeeperView) (old new : DiskView) (m : Machine) (n : ℕ) (now : TimeSpec) (job : Job) (exit : Exit) (its : OpenLog) (fault : LogFault) → Laws old → Represents v old m
     → AsksFor (m.states job.conn) job.body (request.Exit exit) → log_of (m.states job.conn) ≡ Some n → log_in v n ≡ Some its
     → ((fault ≡ faults.Disk) ⊎ (fault ≡ faults.Broken) ⊎ (fault ≡ faults.Full parts.Exit) ⊎ (fault ≡ faults.NoMem)) → fault ≢ faults.Disk → (fault ≡ faults.Broken → its.log.is_broken ≡ true)
-    → (fault ≡ faults.Full parts.Exit → IsFull its.log.bundle parts.Exit (length (exit_text exit))) → Left job.conn Dead v m v' old new → RowGives v now job (told.Refused (log_refusal fault)) m v' old new
+    → (fault ≡ faults.Full parts.Exit → IsFull its.log.bundle parts.Exit (length (exit_text exit))) → Left job.conn Dead v m v' old new → RowGives v now job (outcome.Refused (log_refusal fault)) m v' old new
 log_not_ended v v' old new m n now job exit its fault laws at asks state here (inl e) alive broken full l = absurd (alive e)
 log_not_ended v v' old new m n now job exit its fault laws at asks state here (inr (inl e)) alive broken full l = absurd (
     let held : Held v old m n = subst (LogIs v old m n) (at.sound.owned job.conn n state) (at.logs n) in
@@ -236,9 +236,9 @@ log_not_ended v v' old new m n now job exit its fault laws at asks state here (i
     let f : false ≡ true = sym whole ∙ broken e in
     cc)
 log_not_ended v v' old new m n now job exit its fault laws at asks state here (inr (inr (inl e))) alive broken full l =
-    subst (λ (f : LogFault). RowGives v now job (told.Refused (log_refusal f)) m v' old new) (sym e) (log_full v v' old new m n now job exit its laws at asks state here (full e) l)
+    subst (λ (f : LogFault). RowGives v now job (outcome.Refused (log_refusal f)) m v' old new) (sym e) (log_full v v' old new m n now job exit its laws at asks state here (full e) l)
 log_not_ended v v' old new m n now job exit its fault laws at asks state here (inr (inr (inr e))) alive broken full l =
-    subst (λ (f : LogFault). RowGives v now job (told.Refused (log_refusal f)) m v' old new) (sym e) (log_wants v v' old new m n now job exit laws at asks state l)
+    subst (λ (f : LogFault). RowGives v now job (outcome.Refused (log_refusal f)) m v' old new) (sym e) (log_wants v v' old new m n now job exit laws at asks state l)
 
 -- the log that wasn't ended was taken out
 pub unended_out : (v : KeeperView) (logs' : OpenLogs) (n : ℕ) (its left : OpenLog) → log_in v n ≡ Some its → left.log ≡ its.log → open_logs logs' ≡ with_open n None (open_logs v.logs)

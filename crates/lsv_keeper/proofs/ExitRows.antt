@@ -44,7 +44,7 @@ use Rattle.lsv_keeper.specs.Reading.{reading_of}
 use Rattle.lsv_keeper.specs.Represents.{Free, Held, LogIs, Represents}
 use Rattle.lsv_keeper.specs.Rows.{AllRose, Beside, IsPartOf, LineFault, OwnerRose, RowGives, RowIs}
 use Rattle.lsv_keeper.specs.Value.{KeeperView, event_line, log_in, settings_of}
-use Rattle.lsv_keeper.specs.declared.told.Told.TheVariants as told
+use Rattle.lsv_keeper.specs.declared.outcome.Outcome.TheVariants as outcome
 use Rattle.lsv_keeper.proofs.Acting.{Ends, Owned, OwnIf, OwnKeeps, acted, concerns_ends, ends_owes, ends_refused, ends_refusal, ends_wants, keeps_before, keeps_owned, owned, owned_owes, part_good, about_own, about_some}
 use Rattle.lsv_keeper.proofs.Counting.{counts_did, rose_none, rose_one, rose_second}
 use Rattle.lsv_keeper.proofs.Departing.{departs_changes, its_log, not_its, owner_then, rested}
@@ -371,7 +371,7 @@ module _ (v w w' : KeeperView) (now : TimeSpec) (job : Job) (exit : Exit) (said 
 
   -- its line was refused
   pub row_line_refused : (why : Refusal) → ((answers : List Answer) (failed : List Owner) → Ends job.conn answers → OwnIf v (log_of (m.states job.conn)) (act_of job now answers failed) m one two)
-      → LineRefused (event_line w.kind now job.conn (request.Exit exit) (log_of (m.states job.conn))) why (leaves job.conn Dead left) w w' two three → RowGives v now job (told.Refused why) m w' one three
+      → LineRefused (event_line w.kind now job.conn (request.Exit exit) (log_of (m.states job.conn))) why (leaves job.conn Dead left) w w' two three → RowGives v now job (outcome.Refused why) m w' one three
   row_line_refused why keeps refused answers tells = go refused.fault tells
     where
       has : v.log_exit ≡ true
@@ -407,7 +407,7 @@ module _ (v w w' : KeeperView) (now : TimeSpec) (job : Job) (exit : Exit) (said 
 pub row_log_failed : (v v' : KeeperView) (old new : DiskView) (m : Machine) (n : ℕ) (now : TimeSpec) (job : Job) (exit : Exit) → Laws old → Laws new → (at : Represents v old m) → is_dead (m.states job.conn) ≡ false
     → AsksFor (m.states job.conn) job.body (request.Exit exit) → log_of (m.states job.conn) ≡ Some n → request_in job.body ≡ Ok (request.Exit exit) → (h : Held v old m n)
     → Throughout (IsOfLog n) (IsEither n (Some h.value.stored) (Some (finished h.value (exit_text exit)))) old new → ((file : FileId) → old.faults file ≤ new.faults file) → OwnerRose (owners.Log n) old new
-    → fits_file (exit_text exit) ≡ true → Departs (Some n) job.conn Dead v v' → ((i : ℕ) → log_in v' i ≡ (if i == n then None else log_in v i)) → RowGives v now job (told.Refused refusals.DeviceFault) m v' old new
+    → fits_file (exit_text exit) ≡ true → Departs (Some n) job.conn Dead v v' → ((i : ℕ) → log_in v' i ≡ (if i == n then None else log_in v i)) → RowGives v now job (outcome.Refused refusals.DeviceFault) m v' old new
 row_log_failed v v' old new m n now job exit laws laws' at alive asks state request_is h moments up rose fits d open_ones answers is =
     go (either_now v old new m n now job exit laws laws' at state request_is h moments new.reads laws'.reads_itself)
   where

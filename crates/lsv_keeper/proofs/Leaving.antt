@@ -24,7 +24,7 @@ use Rattle.lsv_machine.specs.Work.{Done, alive, dropped, next_number, plain, ref
 use Rattle.lsv_keeper.specs.Represents.{Represents}
 use Rattle.lsv_keeper.specs.Rows.{AllRose, Beside, ClosedIf, Left, RowGives, RowIs}
 use Rattle.lsv_keeper.specs.Value.{KeeperView, settings_of}
-use Rattle.lsv_keeper.specs.declared.told.Told.TheVariants as told
+use Rattle.lsv_keeper.specs.declared.outcome.Outcome.TheVariants as outcome
 use Rattle.lsv_keeper.proofs.Acting.{Concerns, Ends, OwnIf, acted, closed_keeps, concerns_ends, concerns_silent, ends_farewell, ends_refusal, ends_wants, about_none, about_own}
 use Rattle.lsv_keeper.proofs.Counting.{counts_did, rose_none}
 use Rattle.lsv_keeper.proofs.Frames.{Laws, beside_none}
@@ -112,7 +112,7 @@ wants_step set m act left alive_is line unmarked not_gone_is wants leaving = inr
 
 pub refused_row : (v v' : KeeperView) (now : TimeSpec) (job : Job) (why : Refusal) (m : Machine) (old new : DiskView) → Laws old → Represents v old m → is_dead (m.states job.conn) ≡ false
     → is_look (refusal job.conn why) ≡ false → ((n : ℕ) → plain (settings_of v) now job n m ≡ refused job.conn why m) → Left job.conn Dead v m v' old new
-    → RowGives v now job (told.Refused why) m v' old new
+    → RowGives v now job (outcome.Refused why) m v' old new
 refused_row v v' now job why m old new laws at alive_is look is l answers tells = go tells
   where
     set : Settings
@@ -180,7 +180,7 @@ closed_as (Some i) m noting old new c = record { whole = c.whole; promised = c.p
 
 -- a connection that is noted no more went
 pub farewell_row : (v v' : KeeperView) (noting : List ConnId) (now : TimeSpec) (job : Job) (m : Machine) (old new : DiskView) → Laws old → Represents v old m → is_dead (m.states job.conn) ≡ false
-    → job.body ≡ body.Gone → Left job.conn Fresh (record v { noting = noting }) (record m { noting = without_conn job.conn m.noting }) v' old new → RowGives v now job told.Farewell m v' old new
+    → job.body ≡ body.Gone → Left job.conn Fresh (record v { noting = noting }) (record m { noting = without_conn job.conn m.noting }) v' old new → RowGives v now job outcome.Farewell m v' old new
 farewell_row v v' noting now job m old new laws at alive_is gone l answers e =
     go l.failed (left_log l.failed (log_of (m.states k)) (record m { noting = without_conn k m.noting }) l.left l.log) l.rose
   where
@@ -267,7 +267,7 @@ silent_concerns m act silent dead = concerns_silent None m act silent
 
 -- a job of a dead connection that the table drops
 pub dropped_row : (v v' : KeeperView) (now : TimeSpec) (job : Job) (m after : Machine) (old new : DiskView) → Laws old → is_dead (m.states job.conn) ≡ true
-    → silently after ≡ dropped job.conn job.body m → Beside v.lane v.lanes None old new → Represents v' new after → RowGives v now job told.Nothing m v' old new
+    → silently after ≡ dropped job.conn job.body m → Beside v.lane v.lanes None old new → Represents v' new after → RowGives v now job outcome.Nothing m v' old new
 dropped_row v v' now job m after old new laws dead is beside at' answers e =
     let act : Act = act_of job now answers [] in
     let number : ℕ = next_number (settings_of v) m + 0 * v.lanes in
@@ -290,7 +290,7 @@ dropped_row v v' now job m after old new laws dead is beside at' answers e =
 
 -- a Gone of a dead connection
 pub forgotten_row : (v v' : KeeperView) (noting : List ConnId) (now : TimeSpec) (job : Job) (m : Machine) (old new : DiskView) → Laws old → is_dead (m.states job.conn) ≡ true → job.body ≡ body.Gone
-    → Left job.conn Fresh (record v { noting = noting }) (record m { noting = without_conn job.conn m.noting }) v' old new → RowGives v now job told.Nothing m v' old new
+    → Left job.conn Fresh (record v { noting = noting }) (record m { noting = without_conn job.conn m.noting }) v' old new → RowGives v now job outcome.Nothing m v' old new
 forgotten_row v v' noting now job m old new laws dead gone l =
     let mid : Machine = record m { noting = without_conn job.conn m.noting } in
     let none : log_of (m.states job.conn) ≡ None = dead_none (m.states job.conn) dead in
@@ -301,7 +301,7 @@ forgotten_row v v' noting now job m old new laws dead gone l =
 
 -- any other job of one
 pub ignored_row : (v : KeeperView) (now : TimeSpec) (job : Job) (m : Machine) (disk : DiskView) → Laws disk → Represents v disk m → is_dead (m.states job.conn) ≡ true → (job.body ≡ body.Gone → ⊥)
-    → RowGives v now job told.Nothing m v disk disk
+    → RowGives v now job outcome.Nothing m v disk disk
 ignored_row v now job m disk laws at dead not_gone_is = dropped_row v v now job m m disk disk laws dead (same job.body refl) (beside_none v.lane v.lanes None disk laws (numbers_fit v disk m at)) at
   where
     same : (b : Body) → job.body ≡ b → silently m ≡ dropped job.conn job.body m

@@ -31,7 +31,7 @@ use Rattle.lsv_machine.specs.Failures.{AsksFor, MayDraw}
 use Rattle.lsv_machine.specs.Machine.{Machine, Settings, is_running}
 use Rattle.lsv_machine.specs.Work.{draws}
 use Rattle.lsv_machine.proofs.Changing.{drawn_is}
-use Rattle.lsv_keeper.specs.declared.told.Told.TheVariants as told
+use Rattle.lsv_keeper.specs.declared.outcome.Outcome.TheVariants as outcome
 use Rattle.lsv_keeper.specs.Accepting.{Begun, DrawsNone, Stopped, draw_refusal}
 use Rattle.lsv_keeper.specs.Represents.{Represents}
 use Rattle.lsv_keeper.specs.Rows.{Beside, IsOfJob, Left, OwnerRose, RowGives}
@@ -169,14 +169,14 @@ opens_none false more (inr e) = e
 
 -- its log was begun
 pub begun_at : (v v' : KeeperView) (old new : DiskView) (now : TimeSpec) (k : ConnId) (head : Head) (m : Machine) (n : ℕ) (text : List ℕ) → Laws old → is_running (m.states k) ≡ false → Begun v now k n head m v' old new
-    → (job : Job) → job.conn ≡ k → AsksFor (m.states k) job.body (asked head) → RowGives v now job (told.Log n text) m v' old new
+    → (job : Job) → job.conn ≡ k → AsksFor (m.states k) job.body (asked head) → RowGives v now job (outcome.Log n text) m v' old new
 begun_at v v' old new now k head m n text laws r x job e a =
-    subst (λ (j : ConnId). is_running (m.states j) ≡ false → Begun v now j n head m v' old new → AsksFor (m.states j) job.body (asked head) → RowGives v now job (told.Log n text) m v' old new) e
+    subst (λ (j : ConnId). is_running (m.states j) ≡ false → Begun v now j n head m v' old new → AsksFor (m.states j) job.body (asked head) → RowGives v now job (outcome.Log n text) m v' old new) e
     (λ r x a. begun_row v v' old new now job head m n text laws r a x) r x a
 
 -- it stopped short, and the connection left
 pub stopped_at : (v v1 v2 : KeeperView) (old mid new : DiskView) (now : TimeSpec) (k : ConnId) (head : Head) (m : Machine) (why : Refusal) → Laws old → Laws mid → Keeps v v1 → is_running (m.states k) ≡ false
-    → (x : Stopped v now k (m.states k) head m why v1 old mid) → Left k Dead v1 x.left v2 mid new → (job : Job) → job.conn ≡ k → AsksFor (m.states k) job.body (asked head) → RowGives v now job (told.Refused why) m v2 old new
+    → (x : Stopped v now k (m.states k) head m why v1 old mid) → Left k Dead v1 x.left v2 mid new → (job : Job) → job.conn ≡ k → AsksFor (m.states k) job.body (asked head) → RowGives v now job (outcome.Refused why) m v2 old new
 stopped_at v v1 v2 old mid new now k head m why laws laws1 keeps r x left job e a =
-    subst (λ (j : ConnId). is_running (m.states j) ≡ false → (y : Stopped v now j (m.states j) head m why v1 old mid) → Left j Dead v1 y.left v2 mid new → AsksFor (m.states j) job.body (asked head) → RowGives v now job (told.Refused why) m v2 old new) e
+    subst (λ (j : ConnId). is_running (m.states j) ≡ false → (y : Stopped v now j (m.states j) head m why v1 old mid) → Left j Dead v1 y.left v2 mid new → AsksFor (m.states j) job.body (asked head) → RowGives v now job (outcome.Refused why) m v2 old new) e
     (λ r y left a. stopped_row v v1 v2 old mid new now job head m why laws laws1 keeps r a y left) r x left a

@@ -43,7 +43,7 @@ use Rattle.lsv_keeper.specs.Rows.{AllParts, RowGives}
 use Rattle.lsv_keeper.specs.Value.{KeeperView, log_in, settings_of}
 use Rattle.lsv_keeper.specs.declared.logs.OpenLog.{OpenLog}
 use Rattle.lsv_keeper.specs.declared.logs.OpenLogs.{OpenLogs}
-use Rattle.lsv_keeper.specs.declared.told.Told.TheVariants as told
+use Rattle.lsv_keeper.specs.declared.outcome.Outcome.TheVariants as outcome
 use Rattle.lsv_keeper.proofs.Acting.{Owned, acted, concerns_silent, keeps_parts, about_some}
 use Rattle.lsv_keeper.proofs.Counting.{counts_did, rose_none}
 use Rattle.lsv_keeper.proofs.Frames.{Laws, beside_none}
@@ -179,7 +179,7 @@ record_step set now job r n promised stored m own there asks fits =
 pub record_staged : (v : KeeperView) (logs' : OpenLogs) (waiting' : List ℕ) (now : TimeSpec) (job : Job) (n : ℕ) (r : Record) (its after : OpenLog) (m : Machine) (disk : DiskView)
     → Laws disk → Represents v disk m → AsksFor (m.states job.conn) job.body (request.Record r) → log_of (m.states job.conn) ≡ Some n → IsValid r
     → log_in v n ≡ Some its → TakesRecord v.texts its r after → open_logs logs' ≡ with_open n (Some after) (open_logs v.logs) → waiting' ≡ insert_once n v.waiting
-    → RowGives v now job told.Nothing m (record v { logs = logs'; waiting = waiting' }) disk disk
+    → RowGives v now job outcome.Nothing m (record v { logs = logs'; waiting = waiting' }) disk disk
 record_staged v logs' waiting' now job n r its after m disk laws at asks state valid here took is_logs is_waiting answers tells = (
   m',
   subst (λ (said : List Answer). Acted (reading_of v.lane v.lanes) (settings_of v) now job (map reply_of said) m m' disk disk) (sym tells) act_is,

@@ -29,7 +29,7 @@ use Rattle.lsv_keeper.specs.Rows.{Left, RowGives}
 use Rattle.lsv_keeper.specs.Value.{Keeps, KeeperView, log_in, settings_of}
 use Rattle.lsv_keeper.specs.declared.logs.OpenLog.{OpenLog}
 use Rattle.lsv_keeper.specs.declared.logs.OpenLogs.{OpenLogs}
-use Rattle.lsv_keeper.specs.declared.told.Told.TheVariants as told
+use Rattle.lsv_keeper.specs.declared.outcome.Outcome.TheVariants as outcome
 use Rattle.lsv_keeper.proofs.Acting.{ends_wants}
 use Rattle.lsv_keeper.proofs.Frames.{Laws}
 use Rattle.lsv_keeper.proofs.Leaving.{act_of, ended_row, refused_row, wants_step}
@@ -43,7 +43,7 @@ asks_stays s b what asks gone = subst (λ (x : Body). AsksFor s x what) gone ask
 
 -- memory ran out, and the connection left
 pub wanting_row : (v v' : KeeperView) (now : TimeSpec) (job : Job) (m : Machine) (old new : DiskView) → Laws old → Represents v old m → is_dead (m.states job.conn) ≡ false
-    → (job.body ≡ body.Gone → ⊥) → Left job.conn Dead v m v' old new → RowGives v now job (told.Refused OutOfMemory) m v' old new
+    → (job.body ≡ body.Gone → ⊥) → Left job.conn Dead v m v' old new → RowGives v now job (outcome.Refused OutOfMemory) m v' old new
 wanting_row v v' now job m old new laws at alive_is stays l answers tells =
     let wants : WantsMemory job.conn answers = elim tells [ inl e ↦ inl e | inr w ↦ w ] in
     ended_row v v' now (act_of job now answers l.failed) m (leaves job.conn Dead l.left) old new laws at refl refl (ends_wants job.conn answers wants)
@@ -65,7 +65,7 @@ written_open v disk m k n at state closed =
 -- a record that its log refused
 pub record_refused : (v v' : KeeperView) (now : TimeSpec) (job : Job) (n : ℕ) (r : Record) (its after : OpenLog) (fault : LogFault) (m : Machine) (old new : DiskView) → Laws old → Represents v old m
     → AsksFor (m.states job.conn) job.body (request.Record r) → log_of (m.states job.conn) ≡ Some n → log_in v n ≡ Some its → RefusesRecord v.texts its r fault after → Left job.conn Dead v m v' old new
-    → RowGives v now job (told.Refused (log_refusal fault)) m v' old new
+    → RowGives v now job (outcome.Refused (log_refusal fault)) m v' old new
 record_refused v v' now job n r its after fault m old new laws at asks state here no_room l = go fault refl
   where
     h : Held v old m n
@@ -85,7 +85,7 @@ record_refused v v' now job n r its after fault m old new laws at asks state her
     why_is : (f : LogFault) → fault ≡ f → IsAppendFault its.log no_room.stored f
     why_is f e = subst (IsAppendFault its.log no_room.stored) e no_room.why
 
-    go : (f : LogFault) → fault ≡ f → RowGives v now job (told.Refused (log_refusal f)) m v' old new
+    go : (f : LogFault) → fault ≡ f → RowGives v now job (outcome.Refused (log_refusal f)) m v' old new
     go (faults.TooLong point) e = refused_row v v' now job LogFull m old new laws at alive_is refl (full (λ z. let g : faults.TooLong point ≡ faults.NoMem = sym e ∙ z in cc)) l
     go (faults.Full part) e = refused_row v v' now job LogFull m old new laws at alive_is refl (full (λ z. let g : faults.Full part ≡ faults.NoMem = sym e ∙ z in cc)) l
     go faults.NoMem e = wanting_row v v' now job m old new laws at alive_is (asks_stays (m.states job.conn) job.body (request.Record r) asks) l

@@ -20,7 +20,7 @@ use Rattle.lsv_machine.specs.Work.{adds_line, line_fits}
 use Rattle.lsv_machine.proofs.JudgedLemmas.{judged_ok}
 use Rattle.lsv_keeper.specs.declared.report.Next.{Next}
 use Rattle.lsv_keeper.specs.declared.report.Next.TheVariants as next
-use Rattle.lsv_keeper.specs.declared.told.Told.TheVariants as told
+use Rattle.lsv_keeper.specs.declared.outcome.Outcome.TheVariants as outcome
 use Rattle.lsv_keeper.specs.Accepting.{IsEventOf}
 use Rattle.lsv_keeper.specs.Represents.{Represents}
 use Rattle.lsv_keeper.specs.Rows.{Beside, Left, LineFault, RowGives}
@@ -68,27 +68,27 @@ keeps_left v v1 v2 k same j fewer = record {
 -- the line isn't added
 pub refused_at : (v v1 v2 : KeeperView) (old mid new : DiskView) (k : ConnId) (m : Machine) (line : List ℕ) (nx : Next) (why : Refusal) → Laws old → Laws mid → Represents v1 mid m → Keeps v v1
     → LineFault v.lane line m why old mid → Beside v.lane v.lanes None old mid → Left k Dead v1 m v2 mid new → (job : Job) (now : TimeSpec) (what : Request) → job.conn ≡ k → AsksFor (m.states k) job.body what
-    → IsEventOf (settings_of v) now k (m.states k) what line nx m → RowGives v now job (told.Refused why) m v2 old new
+    → IsEventOf (settings_of v) now k (m.states k) what line nx m → RowGives v now job (outcome.Refused why) m v2 old new
 refused_at v v1 v2 old mid new k m line nx why laws laws1 at1 keeps fault b left job now what e a is =
-    subst (λ (j : ConnId). Left j Dead v1 m v2 mid new → AsksFor (m.states j) job.body what → IsEventOf (settings_of v) now j (m.states j) what line nx m → RowGives v now job (told.Refused why) m v2 old new) e
+    subst (λ (j : ConnId). Left j Dead v1 m v2 mid new → AsksFor (m.states j) job.body what → IsEventOf (settings_of v) now j (m.states j) what line nx m → RowGives v now job (outcome.Refused why) m v2 old new) e
     (λ left a is answers tells. line_refused v v1 v2 old mid new now job m what line nx why laws laws1 at1 keeps fault b left a is answers tells) left a is
 
 -- the connection stays as it was
 pub stays_at : (v v' : KeeperView) (old new : DiskView) (k : ConnId) (m : Machine) (line : List ℕ) → Laws old → Beside v.lane v.lanes None old new → line_fits line m ≡ true → Represents v' new (adds_line k line m)
-    → (job : Job) (now : TimeSpec) (what : Request) → job.conn ≡ k → AsksFor (m.states k) job.body what → IsEventOf (settings_of v) now k (m.states k) what line next.Stays m → RowGives v now job told.Nothing m v' old new
+    → (job : Job) (now : TimeSpec) (what : Request) → job.conn ≡ k → AsksFor (m.states k) job.body what → IsEventOf (settings_of v) now k (m.states k) what line next.Stays m → RowGives v now job outcome.Nothing m v' old new
 stays_at v v' old new k m line laws b fits at job now what e a is =
-    subst (λ (j : ConnId). Represents v' new (adds_line j line m) → AsksFor (m.states j) job.body what → IsEventOf (settings_of v) now j (m.states j) what line next.Stays m → RowGives v now job told.Nothing m v' old new) e
+    subst (λ (j : ConnId). Represents v' new (adds_line j line m) → AsksFor (m.states j) job.body what → IsEventOf (settings_of v) now j (m.states j) what line next.Stays m → RowGives v now job outcome.Nothing m v' old new) e
     (λ at a is answers tells. told_stays v v' old new now job m what line laws b fits at a is answers tells) at a is
 
 -- it comes into another state
 pub enters_at : (v v1 v2 : KeeperView) (old mid new : DiskView) (k : ConnId) (m : Machine) (line : List ℕ) (state : ConnState) → Laws old → Keeps v v1 → Beside v.lane v.lanes None old mid → line_fits line m ≡ true
     → Left k state v1 (adds_line k line m) v2 mid new → (job : Job) (now : TimeSpec) (what : Request) → job.conn ≡ k → AsksFor (m.states k) job.body what → IsEventOf (settings_of v) now k (m.states k) what line (next.Enters state) m
-    → RowGives v now job told.Nothing m v2 old new
+    → RowGives v now job outcome.Nothing m v2 old new
 enters_at v v1 v2 old mid new k m line state laws keeps b fits left job now what e a is =
-    subst (λ (j : ConnId). Left j state v1 (adds_line j line m) v2 mid new → AsksFor (m.states j) job.body what → IsEventOf (settings_of v) now j (m.states j) what line (next.Enters state) m → RowGives v now job told.Nothing m v2 old new) e
+    subst (λ (j : ConnId). Left j state v1 (adds_line j line m) v2 mid new → AsksFor (m.states j) job.body what → IsEventOf (settings_of v) now j (m.states j) what line (next.Enters state) m → RowGives v now job outcome.Nothing m v2 old new) e
     row left a is
   where
-    row : Left job.conn state v1 (adds_line job.conn line m) v2 mid new → AsksFor (m.states job.conn) job.body what → IsEventOf (settings_of v) now job.conn (m.states job.conn) what line (next.Enters state) m → RowGives v now job told.Nothing m v2 old new
+    row : Left job.conn state v1 (adds_line job.conn line m) v2 mid new → AsksFor (m.states job.conn) job.body what → IsEventOf (settings_of v) now job.conn (m.states job.conn) what line (next.Enters state) m → RowGives v now job outcome.Nothing m v2 old new
     row left a is answers tells =
         let same : adds_line job.conn line (with_state job.conn state m) ≡ leaves job.conn state (adds_line job.conn line m) = sym (ap (λ (o : Option ℕ). with_state job.conn state (let_go o (adds_line job.conn line m))) is.idle) in
         moved v v1 v2 old mid new now job m (adds_line job.conn line m) [] line state what laws keeps b left a is.idle refl
@@ -98,12 +98,12 @@ enters_at v v1 v2 old mid new k m line state laws keeps b fits left job now what
 -- it is shut
 pub ends_at : (v v1 v2 : KeeperView) (old mid new : DiskView) (k : ConnId) (m : Machine) (line : List ℕ) → Laws old → Keeps v v1 → Beside v.lane v.lanes None old mid → line_fits line m ≡ true
     → Left k Dead v1 (adds_line k line m) v2 mid new → (job : Job) (now : TimeSpec) (what : Request) → job.conn ≡ k → AsksFor (m.states k) job.body what → IsEventOf (settings_of v) now k (m.states k) what line next.Ends m
-    → RowGives v now job told.Shut m v2 old new
+    → RowGives v now job outcome.Shut m v2 old new
 ends_at v v1 v2 old mid new k m line laws keeps b fits left job now what e a is =
-    subst (λ (j : ConnId). Left j Dead v1 (adds_line j line m) v2 mid new → AsksFor (m.states j) job.body what → IsEventOf (settings_of v) now j (m.states j) what line next.Ends m → RowGives v now job told.Shut m v2 old new) e
+    subst (λ (j : ConnId). Left j Dead v1 (adds_line j line m) v2 mid new → AsksFor (m.states j) job.body what → IsEventOf (settings_of v) now j (m.states j) what line next.Ends m → RowGives v now job outcome.Shut m v2 old new) e
     row left a is
   where
-    row : Left job.conn Dead v1 (adds_line job.conn line m) v2 mid new → AsksFor (m.states job.conn) job.body what → IsEventOf (settings_of v) now job.conn (m.states job.conn) what line next.Ends m → RowGives v now job told.Shut m v2 old new
+    row : Left job.conn Dead v1 (adds_line job.conn line m) v2 mid new → AsksFor (m.states job.conn) job.body what → IsEventOf (settings_of v) now job.conn (m.states job.conn) what line next.Ends m → RowGives v now job outcome.Shut m v2 old new
     row left a is answers tells =
         moved v v1 v2 old mid new now job m (adds_line job.conn line m) (say job.conn Shut ∷ []) line Dead what laws keeps b left a is.idle refl
         (λ n. line_plain (settings_of v) now job what line next.Ends m n a is fits) (refl, tt) (λ n. refl) is.reads_none answers tells
@@ -117,11 +117,11 @@ hello_idle s (body.Bad fault) a = absurd a
 hello_idle s body.Gone a = absurd a
 
 pub greets_at : (v v' : KeeperView) (old new : DiskView) (k : ConnId) (m : Machine) → Laws old → Represents v old m → Left k Greeted v m v' old new → (job : Job) (now : TimeSpec) → job.conn ≡ k → AsksFor (m.states k) job.body request.Hello
-    → RowGives v now job told.Nothing m v' old new
+    → RowGives v now job outcome.Nothing m v' old new
 greets_at v v' old new k m laws at left job now e a =
-    subst (λ (j : ConnId). Left j Greeted v m v' old new → AsksFor (m.states j) job.body request.Hello → RowGives v now job told.Nothing m v' old new) e row left a
+    subst (λ (j : ConnId). Left j Greeted v m v' old new → AsksFor (m.states j) job.body request.Hello → RowGives v now job outcome.Nothing m v' old new) e row left a
   where
-    row : Left job.conn Greeted v m v' old new → AsksFor (m.states job.conn) job.body request.Hello → RowGives v now job told.Nothing m v' old new
+    row : Left job.conn Greeted v m v' old new → AsksFor (m.states job.conn) job.body request.Hello → RowGives v now job outcome.Nothing m v' old new
     row left a answers tells =
         let idle = hello_idle (m.states job.conn) job.body a in
         let same : with_state job.conn Greeted m ≡ leaves job.conn Greeted m = sym (ap (λ (o : Option ℕ). with_state job.conn Greeted (let_go o m)) idle) in

@@ -38,9 +38,9 @@ use Rattle.lsv_machine.proofs.JobFits.{Last, Last.by_refusal, Last.by_shut, refu
 use Rattle.lsv_machine.proofs.Weaken.{Weaker, good_weaker}
 use Rattle.lsv_keeper.specs.Represents.{Free, Represents}
 use Rattle.lsv_keeper.specs.Resuming.{IsCutInto, IsFound, IsLooked, IsResumeFault, JournalRose, LogRose, restart_refusal}
-use Rattle.lsv_keeper.specs.Rows.{AllRose, Beside, Left, RowIs, Tells}
+use Rattle.lsv_keeper.specs.Rows.{AllRose, Beside, Left, RowIs, AnswersWith}
 use Rattle.lsv_keeper.specs.Value.{IsReserved, KeeperView, settings_of}
-use Rattle.lsv_keeper.specs.declared.told.Told.TheVariants as told
+use Rattle.lsv_keeper.specs.declared.outcome.Outcome.TheVariants as outcome
 use Rattle.lsv_keeper.proofs.Acting.{Concerns, OwnKeeps, acted, keeps_before, keeps_rests, about_some}
 use Rattle.lsv_keeper.proofs.Counting.{NoneFell, counts_did, counts_marked, none_fell_on, rose_first, rose_none, rose_one}
 use Rattle.lsv_keeper.proofs.Frames.{Laws, beside_on, beside_wider, resting}
@@ -355,7 +355,7 @@ module _ (v v1 v' : KeeperView) (old mid new : DiskView) (m : Machine) (job : Jo
   -- ---- All of them
 
   pub refused_row : (fault : LogFault) → IsResumeFault restart.log restart.point fault old mid → ((m1 : Machine) → Represents v1 mid m1 → Left job.conn Dead v1 m1 v' mid new)
-      → (answers : List Answer) → Tells job.conn (told.Refused (restart_refusal fault)) answers → RowIs v now job answers m v' old new
+      → (answers : List Answer) → AnswersWith job.conn (outcome.Refused (restart_refusal fault)) answers → RowIs v now job answers m v' old new
   refused_row fault f left answers tells = elim (behind fault f) [
     | as_was looked is row ↦ go (quits v v1 v' job.conn m mid new res a.idle (left m is)) looked row tells
     | was_cut stored c disk into rose is ↦
@@ -363,11 +363,11 @@ module _ (v v1 v' : KeeperView) (old mid new : DiskView) (m : Machine) (job : Jo
         cut_row answers stored c (by_disk disk tells) into rose (quits v v1 v' job.conn m1 mid new res a.idle (left m1 is))
   ]
     where
-      by_disk : fault ≡ faults.Disk → Tells job.conn (told.Refused (restart_refusal fault)) answers → IsRefused job.conn answers
+      by_disk : fault ≡ faults.Disk → AnswersWith job.conn (outcome.Refused (restart_refusal fault)) answers → IsRefused job.conn answers
       by_disk e t = subst (λ (x : LogFault). (answers ≡ refusal job.conn (restart_refusal x)) ⊎ WantsMemory job.conn answers) e t
 
       go : Quits v v' job.conn m mid new → IsLooked restart.log old mid → (Quits v v' job.conn m mid new → RowIs v now job (refusal job.conn (restart_refusal fault)) m v' old new)
-          → Tells job.conn (told.Refused (restart_refusal fault)) answers → RowIs v now job answers m v' old new
+          → AnswersWith job.conn (outcome.Refused (restart_refusal fault)) answers → RowIs v now job answers m v' old new
       go q looked row (inl e) = subst (λ (said : List Answer). RowIs v now job said m v' old new) (sym e) (row q)
       go q looked row (inr wants) = wants_row answers wants looked q
 

@@ -272,15 +272,15 @@ settles_refused m job restart a n l act is last no_look =
 -- ---- What is good then
 
 -- a log with a record that ends at the point was told of, and holds what was promised
-pub record Told (l : Ledger) (stored : Stored) : Type 0 where
+pub record Outcome (l : Ledger) (stored : Stored) : Type 0 where
   pub told : ℕ
   pub promised : l.promised ≡ Some told
   pub keeps : Keeps l told stored
 
-pub told_of : (l : Ledger) (stored : Stored) (point x : ℕ) → first stored.records point ≡ Some x → GoodLog l (Some stored) → Told l stored
-told_of l stored point x some good = go l.promised refl good
+pub outcome_of : (l : Ledger) (stored : Stored) (point x : ℕ) → first stored.records point ≡ Some x → GoodLog l (Some stored) → Outcome l stored
+outcome_of l stored point x some good = go l.promised refl good
   where
-    go : (o : Option ℕ) → l.promised ≡ o → GoodFor l o (Some stored) → Told l stored
+    go : (o : Option ℕ) → l.promised ≡ o → GoodFor l o (Some stored) → Outcome l stored
     go None e g = absurd (let b : first [] point ≡ Some x = subst (λ (rs : List Record). first rs point ≡ Some x) g.0 some in cc)
     go (Some q) e g = record { told = q; promised = e; keeps = g }
 
@@ -295,7 +295,7 @@ exit_none l l' rs ss (Some t) p same e f h = absurd (cc)
 -- cut, for a history in which the restart was accepted
 pub cut_good : (l : Ledger) (k : ConnId) (stored : Stored) (point x : ℕ) → first stored.records point ≡ Some x → stored.exit ≡ None → GoodLog l (Some stored) → GoodLog (resumed_by k point l) (Some (cut_to x stored))
 cut_good l k stored point x some going good =
-    let t = told_of l stored point x some good in
+    let t = outcome_of l stored point x some good in
     let c = cut_alike stored.records l.shown point x t.keeps.prefix some in
     let within = c.within in
     let said : (resumed_by k point l).promised ≡ Some x = ap (λ (o : Option ℕ). becomes o (kept l.shown point)) t.promised ∙ ap Some c.kept_is in
@@ -311,7 +311,7 @@ pub marked_good : (l : Ledger) (stored part : Stored) (point x left : ℕ) → f
     → part.head ≡ stored.head → part.records ≡ take left stored.records → part.exit ≡ None → (left ≡ x) ⊎ (left ≡ length stored.records)
     → GoodLog (record l { promised = lowered_to l.promised l.shown point }) (Some part)
 marked_good l stored part point x left some going good head records exit either =
-    let t = told_of l stored point x some good in
+    let t = outcome_of l stored point x some good in
     let c = cut_alike stored.records l.shown point x t.keeps.prefix some in
     let within = c.within in
     let enough = t.keeps.enough in

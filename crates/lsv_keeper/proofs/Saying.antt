@@ -11,10 +11,10 @@ use Rattle.lsv_session.specs.declared.connection.ConnId.{ConnId}
 use Rattle.lsv_session.specs.declared.reply.Reply.{Reply}
 use Rattle.lsv_machine.specs.Answers.{Answer, CommitPoint, Error, refusal, reply_of, say}
 use Rattle.lsv_machine.specs.Failures.{WantsMemory}
-use Rattle.lsv_keeper.specs.Causes.{IsDeviceFault, Says, TellsFault}
-use Rattle.lsv_keeper.specs.Rows.{Tells}
-use Rattle.lsv_keeper.specs.declared.told.Told.{Told}
-use Rattle.lsv_keeper.specs.declared.told.Told.TheVariants as told
+use Rattle.lsv_keeper.specs.Causes.{IsDeviceFault, Says, IsFaultRefusal}
+use Rattle.lsv_keeper.specs.Rows.{AnswersWith}
+use Rattle.lsv_keeper.specs.declared.outcome.Outcome.{Outcome}
+use Rattle.lsv_keeper.specs.declared.outcome.Outcome.TheVariants as outcome
 use Rattle.lsv_keeper.proofs.Causes.{all_append, all_as, all_two}
 
 -- ---- One after another
@@ -84,17 +84,17 @@ wants_its : (k : ConnId) (cause : Type 0) (answers : List Answer) → WantsMemor
 wants_its k cause answers (inl e) = subst (AreIts k cause) (sym e) (refusal_its k OutOfMemory cause (λ f. absurd (cc f)))
 wants_its k cause answers (inr e) = subst (AreIts k cause) (sym e) ((refl, tt), ((λ f. absurd (cc f)), tt))
 
-tells_its : (k : ConnId) (t : Told) (answers : List Answer) → Tells k t answers → AreIts k (TellsFault t) answers
-tells_its k told.Nothing answers e = subst (AreIts k (TellsFault told.Nothing)) (sym e) (tt, tt)
-tells_its k (told.Log n id) answers e = subst (AreIts k (TellsFault (told.Log n id))) (sym e) ((refl, tt), ((λ f. absurd (cc f)), tt))
-tells_its k (told.Refused why) answers (inl e) = subst (AreIts k (TellsFault (told.Refused why))) (sym e) (refusal_its k why (TellsFault (told.Refused why)) (λ is. ap (λ (w : Refusal). told.Refused w) is))
-tells_its k (told.Refused why) answers (inr w) = wants_its k (TellsFault (told.Refused why)) answers w
-tells_its k (told.Finished point) answers e = subst (AreIts k (TellsFault (told.Finished point))) (sym e) ((refl, (refl, tt)), ((λ f. absurd (cc f)), ((λ f. absurd (cc f)), tt)))
-tells_its k told.Shut answers e = subst (AreIts k (TellsFault told.Shut)) (sym e) ((refl, tt), ((λ f. absurd (cc f)), tt))
-tells_its k told.Farewell answers e = subst (AreIts k (TellsFault told.Farewell)) (sym e) ((refl, tt), ((λ f. absurd (cc f)), tt))
+tells_its : (k : ConnId) (t : Outcome) (answers : List Answer) → AnswersWith k t answers → AreIts k (IsFaultRefusal t) answers
+tells_its k outcome.Nothing answers e = subst (AreIts k (IsFaultRefusal outcome.Nothing)) (sym e) (tt, tt)
+tells_its k (outcome.Log n id) answers e = subst (AreIts k (IsFaultRefusal (outcome.Log n id))) (sym e) ((refl, tt), ((λ f. absurd (cc f)), tt))
+tells_its k (outcome.Refused why) answers (inl e) = subst (AreIts k (IsFaultRefusal (outcome.Refused why))) (sym e) (refusal_its k why (IsFaultRefusal (outcome.Refused why)) (λ is. ap (λ (w : Refusal). outcome.Refused w) is))
+tells_its k (outcome.Refused why) answers (inr w) = wants_its k (IsFaultRefusal (outcome.Refused why)) answers w
+tells_its k (outcome.Finished point) answers e = subst (AreIts k (IsFaultRefusal (outcome.Finished point))) (sym e) ((refl, (refl, tt)), ((λ f. absurd (cc f)), ((λ f. absurd (cc f)), tt)))
+tells_its k outcome.Shut answers e = subst (AreIts k (IsFaultRefusal outcome.Shut)) (sym e) ((refl, tt), ((λ f. absurd (cc f)), tt))
+tells_its k outcome.Farewell answers e = subst (AreIts k (IsFaultRefusal outcome.Farewell)) (sym e) ((refl, tt), ((λ f. absurd (cc f)), tt))
 
 -- the replies of what a job is told are its own, and one says that a device failed only where that is told
-pub says_told : (k : ConnId) (t : Told) (answers : List Answer) (said said' : List Reply) → Tells k t answers → said' ≡ said ++ map reply_of answers → Says (λ j. j ≡ k) (λ j. TellsFault t) said said'
+pub says_told : (k : ConnId) (t : Outcome) (answers : List Answer) (said said' : List Reply) → AnswersWith k t answers → said' ≡ said ++ map reply_of answers → Says (λ j. j ≡ k) (λ j. IsFaultRefusal t) said said'
 says_told k t answers said said' tells behind = let its = tells_its k t answers tells in record { replies = map reply_of answers; behind = behind; asked = its.0; cause = its.1 }
 
 -- a commit point is to its connection

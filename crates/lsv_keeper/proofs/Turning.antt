@@ -19,10 +19,10 @@ use Rattle.lsv_machine.proofs.Folds.{going_ends, going_more, going_none}
 use Rattle.lsv_machine.proofs.TailFolds.{tail_ends}
 use Rattle.lsv_keeper.specs.Reading.{reading_of}
 use Rattle.lsv_keeper.specs.Represents.{Represents}
-use Rattle.lsv_keeper.specs.Rows.{RowGives, Tells}
+use Rattle.lsv_keeper.specs.Rows.{RowGives, AnswersWith}
 use Rattle.lsv_keeper.specs.Tails.{IsOneOf, JobGives, JobsGive, LinesGive, LogsGive, TurnGives, none_waits}
 use Rattle.lsv_keeper.specs.Value.{Keeps, KeeperView, SameSet, owed, room, settings_of}
-use Rattle.lsv_keeper.specs.declared.told.Told.{Told}
+use Rattle.lsv_keeper.specs.declared.outcome.Outcome.{Outcome}
 use Rattle.lsv_keeper.proofs.Frames.{Laws}
 use Rattle.lsv_keeper.proofs.Numbering.{numbers_fit}
 use Rattle.lsv_keeper.proofs.TailLoops.{replies_joined, same_settings, set_on}
@@ -30,7 +30,7 @@ use Rattle.lsv_keeper.proofs.TailLoops.{replies_joined, same_settings, set_on}
 -- ---- One job
 
 -- a row whose answers were put at the end
-pub job_given : (v v' : KeeperView) (now : TimeSpec) (job : Job) (t : Told) (answers : List Answer) (m : Machine) (said said' : List Reply) (old new : DiskView) → RowGives v now job t m v' old new → Tells job.conn t answers
+pub job_given : (v v' : KeeperView) (now : TimeSpec) (job : Job) (t : Outcome) (answers : List Answer) (m : Machine) (said said' : List Reply) (old new : DiskView) → RowGives v now job t m v' old new → AnswersWith job.conn t answers
     → said' ≡ said ++ map reply_of answers → JobGives v now job m said said' v' old new
 job_given v v' now job t answers m said said' old new row tells told =
     let (after, acted, at) = row answers tells in

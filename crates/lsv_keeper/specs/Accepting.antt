@@ -31,8 +31,8 @@ use Rattle.lsv_machine.specs.Machine.{IsOfLane, Machine, Settings, is_running, l
 use Rattle.lsv_machine.specs.Work.{Done, adds_line, before_line, ends, fits_file, has_line, last_number, line_fits, lined, makes, opens, refused, silently, work}
 use Rattle.lsv_keeper.specs.declared.report.Next.{Next}
 use Rattle.lsv_keeper.specs.declared.report.Next.TheVariants as next
-use Rattle.lsv_keeper.specs.declared.told.Told.{Told}
-use Rattle.lsv_keeper.specs.declared.told.Told.TheVariants as told
+use Rattle.lsv_keeper.specs.declared.outcome.Outcome.{Outcome}
+use Rattle.lsv_keeper.specs.declared.outcome.Outcome.TheVariants as outcome
 use Rattle.lsv_keeper.specs.Represents.{Represents}
 use Rattle.lsv_keeper.specs.Rows.{AllRose, Beside, OwnerRose}
 use Rattle.lsv_keeper.specs.Value.{KeeperView, event_line, settings_of}
@@ -61,11 +61,11 @@ done_by next.Ends k m = ends k (say k Shut ∷ []) m
 abbrev pub unless_running : ConnState → Next → Next
 unless_running s after = if is_running s then next.Stays else after
 
--- how it is told
-abbrev pub told_by : Next → Told
-told_by next.Stays = told.Nothing
-told_by (next.Enters state) = told.Nothing
-told_by next.Ends = told.Shut
+-- the outcome after it
+abbrev pub outcome_after : Next → Outcome
+outcome_after next.Stays = outcome.Nothing
+outcome_after (next.Enters state) = outcome.Nothing
+outcome_after next.Ends = outcome.Shut
 
 -- a request leaves this line, and then this is done; it opens and reads no log
 pub record IsEventOf (set : Settings) (now : TimeSpec) (k : ConnId) (s : ConnState) (what : Request) (line : List ℕ) (after : Next) (m : Machine) : Type 0 where
@@ -82,7 +82,7 @@ pub record IsEventOf (set : Settings) (now : TimeSpec) (k : ConnId) (s : ConnSta
 
 -- ---- A line that isn't added
 
--- why a line wasn't added, as it is told
+-- why a line wasn't added, as the connection is answered
 abbrev pub line_refusal : BundleFault → Refusal
 line_refusal (bundle_faults.Full part) = LogFull
 line_refusal bundle_faults.NoMem = OutOfMemory
@@ -100,7 +100,7 @@ failed_before bundle_faults.NoMem = false
 
 -- ---- A draw
 
--- why no number was drawn, as it is told
+-- why no number was drawn, as the connection is answered
 abbrev pub draw_refusal : DrawFault → Refusal
 draw_refusal (draw_faults.Spent last) = NumbersSpent
 draw_refusal draw_faults.Disk = DeviceFault
@@ -114,7 +114,7 @@ DrawsNone v m why v' old new =
 
 -- ---- A log that is made
 
--- why a log wasn't made, as it is told
+-- why a log wasn't made, as the connection is answered
 abbrev pub create_refusal : LogFault → Refusal
 create_refusal (log_faults.Full part) = LogFull
 create_refusal log_faults.NoMem = OutOfMemory

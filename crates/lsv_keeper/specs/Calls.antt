@@ -18,7 +18,7 @@ use Rattle.lsv_session.specs.declared.reply.Reply.{Reply}
 use Rattle.lsv_machine.specs.Keeping.{OpensStore}
 use Rattle.lsv_machine.specs.Machine.{Machine, log_of}
 use Rattle.lsv_keeper.specs.declared.logs.OpenLog.{OpenLog}
-use Rattle.lsv_keeper.specs.declared.told.Told.{Told}
+use Rattle.lsv_keeper.specs.declared.outcome.Outcome.{Outcome}
 use Rattle.lsv_keeper.specs.Causes.{FlushKeeps, StoreRose}
 use Rattle.lsv_keeper.specs.Frames.{CallKeeps, EntersState, JobKeeps, JobsKeep}
 use Rattle.lsv_keeper.specs.Jobs.{DoesRequest}
@@ -27,7 +27,7 @@ use Rattle.lsv_keeper.specs.Logs.{Flushes, spare_logs}
 use Rattle.lsv_keeper.specs.Reading.{reading_of}
 use Rattle.lsv_keeper.specs.Represents.{Represents}
 use Rattle.lsv_keeper.specs.Resuming.{IsResumeFault, IsResumed, restart_refusal}
-use Rattle.lsv_keeper.specs.Rows.{IsTold, Left, RowGives}
+use Rattle.lsv_keeper.specs.Rows.{NamesLog, Left, RowGives}
 use Rattle.lsv_keeper.specs.Syncing.{NoLog, NoLogUsed, Syncs, Unused}
 use Rattle.lsv_keeper.specs.Syncs.{AnyRestarts, Restarts}
 use Rattle.lsv_keeper.specs.Tails.{JobGives, JobsGive}
@@ -36,15 +36,15 @@ use Rattle.lsv_keeper.specs.Value.{IsReserved, Keeps, KeeperView, Owns, owed, ro
 -- ---- Calls that answer a connection
 
 -- a call for this connection is done, and answered so. If the disk tells its files and `Fits` holds of machine and job, it is a step of the machine. What a call keeps is kept
-pub record DoesCall (tells : Type 0) (now : TimeSpec) (conn : ConnId) (Fits : Machine → Job → Type 0) (ks : List ConnId) (needs faulted : Type 0) (t : Told) (v v' : KeeperView) (old new : DiskView) : Type 0 where
+pub record DoesCall (tells : Type 0) (now : TimeSpec) (conn : ConnId) (Fits : Machine → Job → Type 0) (ks : List ConnId) (needs faulted : Type 0) (t : Outcome) (v v' : KeeperView) (old new : DiskView) : Type 0 where
   pub frame : CallKeeps tells ks needs faulted v v' old new
-  pub told : IsTold t
+  pub named : NamesLog t
   pub row : tells → (m : Machine) (job : Job) → Represents v old m → job.conn ≡ conn → Fits m job → RowGives v now job t m v' old new
 
 -- a request is done, if the connection writes this log. What it is answered is whole, and a call keeps what it keeps in any case
-pub record DoesIfWriting (tells : Type 0) (now : TimeSpec) (conn : ConnId) (log : ℕ) (asked : Request) (t : Told) (v v' : KeeperView) (old new : DiskView) : Type 0 where
+pub record DoesIfWriting (tells : Type 0) (now : TimeSpec) (conn : ConnId) (log : ℕ) (asked : Request) (t : Outcome) (v v' : KeeperView) (old new : DiskView) : Type 0 where
   pub keeps : Keeps v v'
-  pub told : IsTold t
+  pub named : NamesLog t
   pub done : log_of ((sessions_of v).states conn) ≡ Some log → DoesRequest tells now conn asked t v v' old new
 
 -- ---- Connections and their logs

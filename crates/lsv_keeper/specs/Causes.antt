@@ -17,8 +17,8 @@ use Rattle.lsv_session.specs.declared.job.Job.{Job}
 use Rattle.lsv_session.specs.declared.reply.Reply.{Reply}
 use Rattle.lsv_session.specs.declared.reply.ReplyBody.TheVariants as body
 use Rattle.lsv_keeper.specs.declared.logs.OpenLog.{OpenLog}
-use Rattle.lsv_keeper.specs.declared.told.Told.{Told}
-use Rattle.lsv_keeper.specs.declared.told.Told.TheVariants as told
+use Rattle.lsv_keeper.specs.declared.outcome.Outcome.{Outcome}
+use Rattle.lsv_keeper.specs.declared.outcome.Outcome.TheVariants as outcome
 use Rattle.lsv_keeper.specs.Value.{AreLinked, AreWhole, KeeperView, log_in, sessions_of}
 
 -- ---- Faults of the store
@@ -119,9 +119,9 @@ pub record Does (ks : List ConnId) (needs faulted : Type 0) (v v' : KeeperView) 
   pub steady : (p : ConnId → Bool) → AllByRecursion (IsAmong p) ks → IsSteady p v → IsSteady p v'
   pub cause : AreWhole v.logs → faulted → MayAnswer needs v old new
 
--- a job is told that a device failed
-abbrev pub TellsFault : Told → Type 0
-TellsFault t = t ≡ told.Refused DeviceFault
+-- a job is refused since a device failed
+abbrev pub IsFaultRefusal : Outcome → Type 0
+IsFaultRefusal t = t ≡ outcome.Refused DeviceFault
 
 -- ---- What calls below a job keep
 

@@ -1,8 +1,9 @@
 -- What calls within a turn keep, and why they fail: one word for the frame of each kind of call.
-use Rattle.std.specs.Prelude.{◌≡◌, ◌≤◌, ◌+◌, ◌*◌, ℕ, Bool, if◌then◌else◌, List, [], None, Some, length}
+use Rattle.std.specs.Prelude.{◌≡◌, ◌≤◌, ◌+◌, ◌*◌, ℕ, Bool, if◌then◌else◌, List, [], None, Some, length, Result, OnErr}
 use Rattle.std.specs.Global.{Vec}
 use Rattle.lsv_disk.specs.View.{DiskView}
 use Rattle.lsv_eventlog.specs.Value.{EventLogView}
+use Rattle.lsv_request.specs.declared.refusal.Refusal.{Refusal}
 use Rattle.lsv_session.specs.declared.connection.ConnId.{ConnId}
 use Rattle.lsv_session.specs.declared.connection.ConnState.{ConnState}
 use Rattle.lsv_session.specs.declared.reply.Reply.{Reply}
@@ -29,10 +30,11 @@ pub record EntersState (k : ConnId) (s : ConnState) (v v' : KeeperView) : Type 0
   pub noting : v'.noting ≡ v.noting
   pub fewer : length v'.waiting ≤ length v.waiting
 
--- a call that may add an event line for these connections. The sessions stay, no file of a log is used, and only files of numbers and event log are touched. What a call keeps is kept
-pub record LineKeeps (tells : Type 0) (ks : List ConnId) (needs faulted : Type 0) (v v' : KeeperView) (old new : DiskView) : Type 0 where
+-- a call that may add an event line for these connections: if it fails none has one more. The sessions stay, and no file is used but those of numbers and event log. What a call keeps is kept
+pub record LineKeeps {T : Type 0} (tells : Type 0) (ks : List ConnId) (needs : Type 0) (result : Result T Refusal) (faulted : Type 0) (v v' : KeeperView) (old new : DiskView) : Type 0 where
   pub keeps : Keeps v v'
   pub same : SameSessions v v'
+  pub noting : OnErr result (v'.noting ≡ v.noting)
   pub beside : tells → (m : Machine) → Represents v old m → Beside v.lane v.lanes None old new
   pub syncs : tells → NoLogUsed old new
   pub does : Does ks needs faulted v v' old new

@@ -52,7 +52,7 @@ IsEventsFault lane found NoMem = Unit {0}
 abbrev pub IsStoreFault : (lane lanes : ℕ) → Image → StoreFault → Type 0
 IsStoreFault lane lanes found fault = IsNumbersFault lane lanes found fault ⊎ (((last : ℕ) × (judged lane lanes (entry_at lane found) ≡ Ok last)) × IsEventsFault lane found fault)
 
--- how a fault of the numbers is told
+-- a fault of the numbers, as one of the store
 abbrev pub number_fault : (lane : ℕ) → SeqFault → StoreFault
 number_fault lane faults.Disk = Device (owners.Numbers lane)
 number_fault lane (faults.LanesDiffer kept asked) = LanesDiffer kept asked

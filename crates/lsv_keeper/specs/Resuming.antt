@@ -23,9 +23,9 @@ use Rattle.lsv_keeper.specs.declared.logs.OpenLog.{OpenLog}
 use Rattle.lsv_keeper.specs.Represents.{Masks}
 use Rattle.lsv_journal.specs.Last.{HasSlotsEntry}
 
--- ---- What is told
+-- ---- What is answered
 
--- why a log isn't gone on with, as the connection is told
+-- why a log isn't gone on with, as the connection is answered
 abbrev pub restart_refusal : LogFault → Refusal
 restart_refusal faults.Absent = refusals.NoSuchLog
 restart_refusal (faults.Damaged part) = refusals.LogDamaged

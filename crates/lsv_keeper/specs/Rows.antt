@@ -1,4 +1,4 @@
--- What a job of a turn gives: what is told, the machine's step, and what the keeper and its disk then stand for.
+-- What a job of a turn gives: its outcome, the machine's step, and what the keeper and its disk then stand for.
 use Rattle.std.specs.Prelude.{◌≡◌, ◌≤◌, ◌⊎◌, ℕ, false, List, [], ◌∷◌, map, take, length, Option, Some, None, Contains}
 use Rattle.lsv_base.specs.LogNo.{digits_of}
 use Rattle.lsv_base.specs.declared.time.TimeSpec.{TimeSpec}
@@ -21,36 +21,36 @@ use Rattle.lsv_machine.specs.Failures.{LeavesLog, WantsMemory}
 use Rattle.lsv_machine.specs.Keeping.{Acted}
 use Rattle.lsv_machine.specs.Machine.{LogState.There, Machine, leaves, log_of}
 use Rattle.lsv_machine.specs.Work.{line_fits}
-use Rattle.lsv_keeper.specs.declared.told.Told.{Told}
-use Rattle.lsv_keeper.specs.declared.told.Told.TheVariants as told
+use Rattle.lsv_keeper.specs.declared.outcome.Outcome.{Outcome}
+use Rattle.lsv_keeper.specs.declared.outcome.Outcome.TheVariants as outcome
 use Rattle.lsv_keeper.specs.Reading.{reading_of}
 use Rattle.lsv_keeper.specs.Represents.{Represents}
 use Rattle.lsv_keeper.specs.Value.{KeeperView, settings_of}
 
--- ---- What is told
+-- ---- Outcomes
 
 -- a job is answered so; where memory runs out for the text of a refusal, it is one for want of memory, or a Shut alone
-abbrev pub Tells : ConnId → Told → List Answer → Type 0
-Tells k told.Nothing answers = answers ≡ []
-Tells k (told.Log n id) answers = answers ≡ say k (LogId n) ∷ []
-Tells k (told.Refused why) answers = (answers ≡ refusal k why) ⊎ WantsMemory k answers
-Tells k (told.Finished point) answers = answers ≡ say k (CommitPoint point) ∷ say k Shut ∷ []
-Tells k told.Shut answers = answers ≡ say k Shut ∷ []
-Tells k told.Farewell answers = answers ≡ farewell k
+abbrev pub AnswersWith : ConnId → Outcome → List Answer → Type 0
+AnswersWith k outcome.Nothing answers = answers ≡ []
+AnswersWith k (outcome.Log n id) answers = answers ≡ say k (LogId n) ∷ []
+AnswersWith k (outcome.Refused why) answers = (answers ≡ refusal k why) ⊎ WantsMemory k answers
+AnswersWith k (outcome.Finished point) answers = answers ≡ say k (CommitPoint point) ∷ say k Shut ∷ []
+AnswersWith k outcome.Shut answers = answers ≡ say k Shut ∷ []
+AnswersWith k outcome.Farewell answers = answers ≡ farewell k
 
 -- the text of an identifier is that of its number
-abbrev pub IsTold : Told → Type 0
-IsTold (told.Log n id) = id ≡ digits_of n
-IsTold told.Nothing = Unit {0}
-IsTold (told.Refused why) = Unit {0}
-IsTold (told.Finished point) = Unit {0}
-IsTold told.Shut = Unit {0}
-IsTold told.Farewell = Unit {0}
+abbrev pub NamesLog : Outcome → Type 0
+NamesLog (outcome.Log n id) = id ≡ digits_of n
+NamesLog outcome.Nothing = Unit {0}
+NamesLog (outcome.Refused why) = Unit {0}
+NamesLog (outcome.Finished point) = Unit {0}
+NamesLog outcome.Shut = Unit {0}
+NamesLog outcome.Farewell = Unit {0}
 
--- what is told where a log took a record, or why it refused it
-abbrev pub told_of : Option Refusal → Told
-told_of None = told.Nothing
-told_of (Some why) = told.Refused why
+-- the outcome if a log took a record, or why it refused it
+abbrev pub outcome_of : Option Refusal → Outcome
+outcome_of None = outcome.Nothing
+outcome_of (Some why) = outcome.Refused why
 
 -- ---- A row
 
@@ -59,9 +59,9 @@ abbrev pub RowIs : KeeperView → TimeSpec → Job → List Answer → Machine �
 RowIs v now job answers m v' old new = (after : Machine)
     × Acted (reading_of v.lane v.lanes) (settings_of v) now job (map reply_of answers) m after old new × Represents v' new after
 
--- the same, however it is told
-abbrev pub RowGives : KeeperView → TimeSpec → Job → Told → Machine → KeeperView → DiskView → DiskView → Type 0
-RowGives v now job t m v' old new = (answers : List Answer) → Tells job.conn t answers → RowIs v now job answers m v' old new
+-- the same, with whatever answers the outcome has
+abbrev pub RowGives : KeeperView → TimeSpec → Job → Outcome → Machine → KeeperView → DiskView → DiskView → Type 0
+RowGives v now job t m v' old new = (answers : List Answer) → AnswersWith job.conn t answers → RowIs v now job answers m v' old new
 
 -- ---- What calls of a job leave alone
 

@@ -33,7 +33,7 @@ pub record Refused (r : Reading) (set : Settings) (conns : List ConnId) (tail : 
   pub lines : LinesRest r old new
   pub text : after.lines ≡ m.lines
 
--- the same, with what is then told and stood for; of the logs that failed none waits any more
+-- the same, with what is then answered and stood for; of the logs that failed none waits any more
 pub record RefusedGive (conns : List ConnId) (v : KeeperView) (m : Machine) (said said' : List Reply) (v' : KeeperView) (old new : DiskView) : Type 0 where
   pub tail : Tail
   pub after : Machine

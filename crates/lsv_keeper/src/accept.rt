@@ -21,8 +21,8 @@ ghost use Rattle.lsv_keeper.specs.Syncing.{IsPast};
 
 use crate::Keeper;
 use crate::logs::OpenLog;
+use crate::outcome::Outcome;
 use crate::report::{Next, peer_of, unless_running};
-use crate::told::Told;
 use lsv_base::{Bytes, LogNo, NoMem, TimeSpec};
 use lsv_disk::Disk;
 use lsv_event::Event;
@@ -50,7 +50,7 @@ struct Opened {
     id: Bytes,
 }
 
-/// Why no number was drawn, as the connection is told.
+/// Why no number was drawn, as the connection is answered.
 fn draw_refusal(fault: DrawFault) -> Refusal
     ensures { result ≡ draw_refusal fault }
 {
@@ -60,7 +60,7 @@ fn draw_refusal(fault: DrawFault) -> Refusal
     }
 }
 
-/// Why a log wasn't made, as the connection is told.
+/// Why a log wasn't made, as the connection is answered.
 fn create_refusal(fault: LogFault) -> Refusal
     ensures { result ≡ create_refusal fault }
 {
@@ -92,7 +92,7 @@ impl<F: LineWriter, H: Search> Keeper<F, H> {
         conn: ConnId,
         state: ConnState,
         accept: Accept,
-    ) -> Told
+    ) -> Outcome
         requires timed { IsSome (nanos_of now) }
         requires state { state ≡ (sessions_of (view_of self.old)).states conn }
         requires asked { (message : ClientMessage) × (judged state message ≡ Ok (requests.Accept accept)) }
@@ -116,11 +116,17 @@ impl<F: LineWriter, H: Search> Keeper<F, H> {
         };
         let next = Next::Enters(ConnState::Running(None));
         let next = unless_running(self.table.state(conn), next);
-        self.tell(disk, conn, &event, next)
+        self.add_event(disk, conn, &event, next)
     }
 
-    /// A log is opened, and the connection told its identifier; or the connection is refused.
-    fn accept_log<D: Disk>(&mut self, disk: &mut D, now: TimeSpec, conn: ConnId, head: Head) -> Told
+    /// A log is opened, and the connection gets its identifier; or the connection is refused.
+    fn accept_log<D: Disk>(
+        &mut self,
+        disk: &mut D,
+        now: TimeSpec,
+        conn: ConnId,
+        head: Head,
+    ) -> Outcome
         requires timed { IsSome (nanos_of now) }
         requires submit { IsSome (nanos_of head.submit) }
         requires free { is_running ((sessions_of (view_of self.old)).states conn) ≡ false }
@@ -129,10 +135,10 @@ impl<F: LineWriter, H: Search> Keeper<F, H> {
         ensures done { DoesRequest D.tells now conn (requests.Accept (accept_of head)) result (view_of self.old) (view_of self.new) (D.view disk.old) (D.view disk.new) }
     {
         match self.open_log(disk, now, conn, head) {
-            Ok(opened) => Told::Log(opened.number, opened.id),
+            Ok(opened) => Outcome::Log(opened.number, opened.id),
             Err(why) => {
                 self.enter_state(disk, conn, ConnState::Dead);
-                Told::Refused(why)
+                Outcome::Refused(why)
             }
         }
     }

@@ -1,6 +1,6 @@
 //! Event lines.
 
-ghost use Rattle.std.specs.Prelude.{◌≡◌, ◌++◌, true, false, IfErr, OnOk, OnErr, [], ◌∷◌, IsErrOf};
+ghost use Rattle.std.specs.Prelude.{◌≡◌, ◌++◌, true, false, IfErr, OnOk, [], ◌∷◌, IsErrOf};
 ghost use Rattle.lsv_event.specs.Events.{IsTimed};
 ghost use Rattle.lsv_event.specs.Lines.{line_of};
 ghost use Rattle.lsv_eventlog.specs.Value.{is_broken};
@@ -35,8 +35,7 @@ impl<F: LineWriter, H: Search> Keeper<F, H> {
         event: &Event,
     ) -> Result<(), Refusal>
         requires timed { IsTimed event.now }
-        ensures frame { LineKeeps D.tells (conn ∷ []) (Unit {0}) (IsErrOf result Refusal.DeviceFault) (view_of self.old) (view_of self.new) (D.view disk.old) (D.view disk.new) }
-        ensures none { OnErr result ((view_of self.new).noting ≡ (view_of self.old).noting) }
+        ensures frame { LineKeeps D.tells (conn ∷ []) (Unit {0}) result (IsErrOf result Refusal.DeviceFault) (view_of self.old) (view_of self.new) (D.view disk.old) (D.view disk.new) }
         ensures added { D.tells → OnOk result ((m : Machine) → Represents (view_of self.old) (D.view disk.old) m →
             (line_fits (line_of (view_of self.old).kind event.now) m ≡ true) × Represents (view_of self.new) (D.view disk.new) (adds_line conn (line_of (view_of self.old).kind event.now) m)) }
         ensures refused { D.tells → IfErr result (λ why. (m : Machine) → Represents (view_of self.old) (D.view disk.old) m →
@@ -60,7 +59,7 @@ impl<F: LineWriter, H: Search> Keeper<F, H> {
     }
 }
 
-/// Why a line wasn't added, as it is told.
+/// Why a line wasn't added, as the connection is answered.
 fn line_refusal(fault: BundleFault) -> Refusal
     ensures { result ≡ line_refusal fault }
 {

@@ -14,11 +14,11 @@ ghost use Rattle.lsv_keeper.specs.Jobs.{DoesRequest};
 ghost use Rattle.lsv_keeper.specs.Represents.{Represents};
 ghost use Rattle.lsv_keeper.specs.Value.{event_line, room, sessions_of};
 ghost use Rattle.lsv_keeper.specs.Views.{view_of};
-ghost use Rattle.lsv_keeper.specs.Causes.{TellsFault};
+ghost use Rattle.lsv_keeper.specs.Causes.{IsFaultRefusal};
 
 use crate::Keeper;
 use crate::logs::log_refusal;
-use crate::told::Told;
+use crate::outcome::Outcome;
 use lsv_base::{LogNo, TimeSpec};
 use lsv_disk::Disk;
 use lsv_event::{Event, Peer};
@@ -32,7 +32,7 @@ use lsv_session::{ConnId, ConnState};
 
 impl<F: LineWriter, H: Search> Keeper<F, H> {
     /// A session ends, and the log that it has: by one flush its exit is set and all its records are committed, then its
-    /// event line is added where exits have one, and then it is told. A line that is refused leaves the exit set.
+    /// event line is added if exits have one, and then it is answered. A line that is refused leaves the exit set.
     pub(crate) fn exit<D: Disk>(
         &mut self,
         disk: &mut D,
@@ -40,7 +40,7 @@ impl<F: LineWriter, H: Search> Keeper<F, H> {
         conn: ConnId,
         state: ConnState,
         exit: Exit,
-    ) -> Told
+    ) -> Outcome
         requires stands { D.tells → (m : Machine) × Represents (view_of self.old) (D.view disk.old) m }
         requires room { 1 ≤ room (view_of self.old) }
         requires state { state ≡ (sessions_of (view_of self.old)).states conn }
@@ -61,18 +61,18 @@ impl<F: LineWriter, H: Search> Keeper<F, H> {
         now: TimeSpec,
         conn: ConnId,
         exit: Exit,
-    ) -> Told
+    ) -> Outcome
         requires stands { D.tells → (m : Machine) × Represents (view_of self.old) (D.view disk.old) m }
         requires room { 1 ≤ room (view_of self.old) }
         requires timed { IsSome (nanos_of now) }
         requires run { IsSome (nanos_of exit.run) }
-        ensures { DoesCall D.tells now conn (λ m job. (log_of (m.states conn) ≡ None) × AsksFor (m.states conn) job.body (request.Exit exit)) (conn ∷ []) ((view_of self.old).log_exit ≡ true) (TellsFault result)
+        ensures { DoesCall D.tells now conn (λ m job. (log_of (m.states conn) ≡ None) × AsksFor (m.states conn) job.body (request.Exit exit)) (conn ∷ []) ((view_of self.old).log_exit ≡ true) (IsFaultRefusal result)
             result (view_of self.old) (view_of self.new) (D.view disk.old) (D.view disk.new) }
     {
         self.enter_state(disk, conn, ConnState::Dead);
         match self.exit_line(disk, now, conn, None, exit) {
-            Ok(()) => Told::Shut,
-            Err(why) => Told::Refused(why),
+            Ok(()) => Outcome::Shut,
+            Err(why) => Outcome::Refused(why),
         }
     }
 
@@ -84,7 +84,7 @@ impl<F: LineWriter, H: Search> Keeper<F, H> {
         conn: ConnId,
         log: LogNo,
         exit: Exit,
-    ) -> Told
+    ) -> Outcome
         requires stands { D.tells → (m : Machine) × Represents (view_of self.old) (D.view disk.old) m }
         requires room { 1 ≤ room (view_of self.old) }
         requires timed { IsSome (nanos_of now) }
@@ -92,28 +92,28 @@ impl<F: LineWriter, H: Search> Keeper<F, H> {
         ensures { DoesIfWriting D.tells now conn log (request.Exit exit) result (view_of self.old) (view_of self.new) (D.view disk.old) (D.view disk.new) }
     {
         let Some(mut its) = self.logs.take(log) else {
-            return Told::Nothing;
+            return Outcome::Nothing;
         };
         if its.log.is_complete() {
             self.release(conn, ConnState::Dead, log);
-            return Told::Nothing;
+            return Outcome::Nothing;
         }
         match its.log.finish(disk, &exit) {
             Ok(point) => {
                 self.release(conn, ConnState::Dead, log);
                 match self.exit_line(disk, now, conn, Some(log), exit) {
-                    Ok(()) => Told::Finished(point),
-                    Err(why) => Told::Refused(why),
+                    Ok(()) => Outcome::Finished(point),
+                    Err(why) => Outcome::Refused(why),
                 }
             }
             Err(fault) => match fault {
                 LogFault::Disk => {
                     self.release(conn, ConnState::Dead, log);
-                    Told::Refused(Refusal::DeviceFault)
+                    Outcome::Refused(Refusal::DeviceFault)
                 }
                 _ => {
                     self.let_go(disk, conn, ConnState::Dead, log, its);
-                    Told::Refused(log_refusal(fault))
+                    Outcome::Refused(log_refusal(fault))
                 }
             },
         }
@@ -130,7 +130,7 @@ impl<F: LineWriter, H: Search> Keeper<F, H> {
     ) -> Result<(), Refusal>
         requires timed { IsSome (nanos_of now) }
         requires run { IsSome (nanos_of exit.run) }
-        ensures frame { LineKeeps D.tells (conn ∷ []) ((view_of self.old).log_exit ≡ true) (IsErrOf result Refusal.DeviceFault) (view_of self.old) (view_of self.new) (D.view disk.old) (D.view disk.new) }
+        ensures frame { LineKeeps D.tells (conn ∷ []) ((view_of self.old).log_exit ≡ true) result (IsErrOf result Refusal.DeviceFault) (view_of self.old) (view_of self.new) (D.view disk.old) (D.view disk.new) }
         ensures added { D.tells → OnOk result ((m : Machine) → Represents (view_of self.old) (D.view disk.old) m
             → LineAdded conn (event_line (view_of self.old).kind now conn (request.Exit exit) log) m (view_of self.old) (view_of self.new) (D.view disk.new)) }
         ensures refused { D.tells → IfErr result (λ why. (m : Machine) → Represents (view_of self.old) (D.view disk.old) m

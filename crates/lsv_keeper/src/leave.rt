@@ -17,12 +17,12 @@ ghost use Rattle.lsv_machine.specs.Answers.{refusal};
 ghost use Rattle.lsv_machine.specs.History.{is_look};
 ghost use Rattle.lsv_keeper.specs.Leaving.{TakenOut};
 ghost use Rattle.lsv_keeper.specs.Value.{KeeperView, room, sessions_of, settings_of};
-ghost use Rattle.lsv_keeper.specs.declared.told.Told.{Told};
+ghost use Rattle.lsv_keeper.specs.declared.outcome.Outcome.{Outcome};
 ghost use Rattle.lsv_keeper.specs.Causes.{LetsGo};
 
 use crate::Keeper;
 use crate::logs::OpenLog;
-use crate::told::Told;
+use crate::outcome::Outcome;
 use lsv_base::LogNo;
 use lsv_disk::Disk;
 use lsv_hook::LineWriter;
@@ -83,33 +83,33 @@ impl<F: LineWriter, H: Search> Keeper<F, H> {
     }
 
     /// The connection is refused.
-    pub(crate) fn refuse<D: Disk>(&mut self, disk: &mut D, conn: ConnId, why: Refusal) -> Told
+    pub(crate) fn refuse<D: Disk>(&mut self, disk: &mut D, conn: ConnId, why: Refusal) -> Outcome
         requires stands { D.tells → (m : Machine) × Represents (view_of self.old) (D.view disk.old) m }
         requires room { 1 ≤ room (view_of self.old) }
-        ensures told { result ≡ Told.Refused why }
+        ensures is { result ≡ Outcome.Refused why }
         ensures done { (now : TimeSpec) → DoesCall D.tells now conn (λ m job. (is_dead (m.states conn) ≡ false) × (is_look (refusal conn why) ≡ false) × ((n : ℕ) → plain (settings_of (view_of self.old)) now job n m ≡ refused conn why m))
             [] ⊥ ⊥ result (view_of self.old) (view_of self.new) (D.view disk.old) (D.view disk.new) }
     {
         self.enter_state(disk, conn, ConnState::Dead);
-        Told::Refused(why)
+        Outcome::Refused(why)
     }
 
     /// The connection went.
-    pub(crate) fn farewell<D: Disk>(&mut self, disk: &mut D, conn: ConnId) -> Told
+    pub(crate) fn farewell<D: Disk>(&mut self, disk: &mut D, conn: ConnId) -> Outcome
         requires stands { D.tells → (m : Machine) × Represents (view_of self.old) (D.view disk.old) m }
-        ensures told { result ≡ Told.Farewell }
+        ensures is { result ≡ Outcome.Farewell }
         ensures done { (now : TimeSpec) → DoesCall D.tells now conn (λ m job. (job.body ≡ bodies.Gone) × (is_dead (m.states conn) ≡ false))
             [] ⊥ ⊥ result (view_of self.old) (view_of self.new) (D.view disk.old) (D.view disk.new) }
     {
         forget(&mut self.noting, conn);
         self.enter_state(disk, conn, ConnState::Fresh);
-        Told::Farewell
+        Outcome::Farewell
     }
 
     /// A job of a dead connection is dropped, and a `Gone` forgets the connection.
-    pub(crate) fn drop_job<D: Disk>(&mut self, disk: &mut D, conn: ConnId, body: &Body) -> Told
+    pub(crate) fn drop_job<D: Disk>(&mut self, disk: &mut D, conn: ConnId, body: &Body) -> Outcome
         requires stands { D.tells → (m : Machine) × Represents (view_of self.old) (D.view disk.old) m }
-        ensures told { result ≡ Told.Nothing }
+        ensures is { result ≡ Outcome.Nothing }
         ensures done { (now : TimeSpec) → DoesCall D.tells now conn (λ m job. (job.body ≡ body.now) × (is_dead (m.states conn) ≡ true))
             [] ⊥ ⊥ result (view_of self.old) (view_of self.new) (D.view disk.old) (D.view disk.new) }
     {
@@ -117,6 +117,6 @@ impl<F: LineWriter, H: Search> Keeper<F, H> {
             forget(&mut self.noting, conn);
             self.enter_state(disk, conn, ConnState::Fresh);
         }
-        Told::Nothing
+        Outcome::Nothing
     }
 }

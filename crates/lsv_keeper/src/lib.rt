@@ -11,6 +11,7 @@ mod laws;
 mod leave;
 mod logs;
 mod open;
+mod outcome;
 mod own;
 mod policy;
 mod record;
@@ -18,7 +19,6 @@ mod report;
 mod restart;
 mod resume;
 mod tail;
-mod told;
 mod turn;
 mod work;
 

@@ -11,7 +11,7 @@ ghost use Rattle.lsv_keeper.specs.Jobs.{DoesRequest};
 ghost use Rattle.lsv_keeper.specs.Logs.{IsWindowFit};
 ghost use Rattle.lsv_keeper.specs.Represents.{Represents};
 ghost use Rattle.lsv_keeper.specs.Moved.{MaskMoved};
-ghost use Rattle.lsv_keeper.specs.Rows.{told_of};
+ghost use Rattle.lsv_keeper.specs.Rows.{outcome_of};
 ghost use Rattle.lsv_keeper.specs.Value.{KeeperView, room, sessions_of};
 ghost use Rattle.lsv_keeper.specs.declared.logs.OpenLog.{OpenLog};
 ghost use Rattle.lsv_session.specs.declared.connection.ConnState.TheVariants.{Dead};
@@ -20,7 +20,7 @@ ghost use Rattle.lsv_keeper.specs.Causes.{Does};
 
 use crate::Keeper;
 use crate::logs::{Appended, log_refusal};
-use crate::told::{Told, told_of};
+use crate::outcome::{Outcome, outcome_of};
 use lsv_base::LogNo;
 use lsv_disk::Disk;
 use lsv_hook::LineWriter;
@@ -51,7 +51,7 @@ impl<F: LineWriter, H: Search> Keeper<F, H> {
         conn: ConnId,
         state: ConnState,
         r: Record,
-    ) -> Told
+    ) -> Outcome
         requires stands { D.tells → (m : Machine) × Represents (view_of self.old) (D.view disk.old) m }
         requires room { 1 ≤ room (view_of self.old) }
         requires state { state ≡ (sessions_of (view_of self.old)).states conn }
@@ -59,16 +59,16 @@ impl<F: LineWriter, H: Search> Keeper<F, H> {
         ensures done { (now : TimeSpec) → DoesRequest D.tells now conn (request.Record r) result (view_of self.old) (view_of self.new) (D.view disk.old) (D.view disk.new) }
     {
         let Some(log) = log_of(state) else {
-            return Told::Nothing;
+            return Outcome::Nothing;
         };
         if self.waiting.reserve(1).is_err() {
             return self.want_memory(disk, conn);
         }
-        told_of(self.take_record(disk, conn, log, r))
+        outcome_of(self.take_record(disk, conn, log, r))
     }
 
     /// A valid record goes to this log, which waits for its commit point then: there is room for it among the waiting. A reason
-    /// alone comes back, since all that may be told is large to move.
+    /// alone comes back, since an outcome is large to move.
     #[inline(always)]
     fn take_record<D: Disk>(
         &mut self,
@@ -81,7 +81,7 @@ impl<F: LineWriter, H: Search> Keeper<F, H> {
         requires room { 1 ≤ room (view_of self.old) }
         requires waiting { vec_len self.old.waiting < vec_capacity self.old.waiting }
         requires valid { IsValid r }
-        ensures { (now : TimeSpec) → DoesIfWriting D.tells now conn log (request.Record r) (told_of result) (view_of self.old) (view_of self.new) (D.view disk.old) (D.view disk.new) }
+        ensures { (now : TimeSpec) → DoesIfWriting D.tells now conn log (request.Record r) (outcome_of result) (view_of self.old) (view_of self.new) (D.view disk.old) (D.view disk.new) }
     {
         let mut r = r;
         match self.logs.append(log, &self.prompt, &self.texts, &mut r) {
@@ -113,14 +113,14 @@ impl<F: LineWriter, H: Search> Keeper<F, H> {
     }
 
     /// Memory runs out: the connection is refused, and the log that it wrote let go.
-    pub(crate) fn want_memory<D: Disk>(&mut self, disk: &mut D, conn: ConnId) -> Told
+    pub(crate) fn want_memory<D: Disk>(&mut self, disk: &mut D, conn: ConnId) -> Outcome
         requires stands { D.tells → (m : Machine) × Represents (view_of self.old) (D.view disk.old) m }
         requires room { 1 ≤ room (view_of self.old) }
-        ensures told { result ≡ Told.Refused Refusal.OutOfMemory }
+        ensures is { result ≡ Outcome.Refused Refusal.OutOfMemory }
         ensures done { (now : TimeSpec) → DoesCall D.tells now conn (λ m job. (is_dead (m.states conn) ≡ false) × (job.body ≡ bodies.Gone → ⊥))
             [] ⊥ ⊥ result (view_of self.old) (view_of self.new) (D.view disk.old) (D.view disk.new) }
     {
         self.enter_state(disk, conn, ConnState::Dead);
-        Told::Refused(Refusal::OutOfMemory)
+        Outcome::Refused(Refusal::OutOfMemory)
     }
 }

@@ -17,10 +17,10 @@ ghost use Rattle.lsv_keeper.specs.Jobs.{DoesRequest};
 ghost use Rattle.lsv_keeper.specs.Represents.{Represents};
 ghost use Rattle.lsv_keeper.specs.Value.{peer_of, room, sessions_of, settings_of};
 ghost use Rattle.lsv_keeper.specs.Views.{view_of};
-ghost use Rattle.lsv_keeper.specs.Causes.{TellsFault};
+ghost use Rattle.lsv_keeper.specs.Causes.{IsFaultRefusal};
 
 use crate::Keeper;
-use crate::told::Told;
+use crate::outcome::Outcome;
 use lsv_base::TimeSpec;
 use lsv_disk::Disk;
 use lsv_event::{Event, Peer};
@@ -61,13 +61,13 @@ pub(crate) fn unless_running(state: ConnState, next: Next) -> Next
 
 impl<F: LineWriter, H: Search> Keeper<F, H> {
     /// A conversation begins.
-    pub(crate) fn greet<D: Disk>(&mut self, disk: &mut D, conn: ConnId) -> Told
+    pub(crate) fn greet<D: Disk>(&mut self, disk: &mut D, conn: ConnId) -> Outcome
         requires stands { D.tells → (m : Machine) × Represents (view_of self.old) (D.view disk.old) m }
         requires room { 1 ≤ room (view_of self.old) }
         ensures done { (now : TimeSpec) → DoesRequest D.tells now conn requests.Hello result (view_of self.old) (view_of self.new) (D.view disk.old) (D.view disk.new) }
     {
         self.enter_state(disk, conn, ConnState::Greeted);
-        Told::Nothing
+        Outcome::Nothing
     }
 
     /// A command was rejected: in a session that is an event alone, else the connection ends.
@@ -78,7 +78,7 @@ impl<F: LineWriter, H: Search> Keeper<F, H> {
         conn: ConnId,
         state: ConnState,
         report: Report,
-    ) -> Told
+    ) -> Outcome
         requires timed { IsSome (nanos_of now) }
         requires state { state ≡ (sessions_of (view_of self.old)).states conn }
         requires asked { (message : ClientMessage) × (judged state message ≡ Ok (requests.Reject report)) }
@@ -95,7 +95,7 @@ impl<F: LineWriter, H: Search> Keeper<F, H> {
                 info: report.info,
             },
         };
-        self.tell(disk, conn, &event, unless_running(state, Next::Ends))
+        self.add_event(disk, conn, &event, unless_running(state, Next::Ends))
     }
 
     /// Something is amiss: in a session that is an event alone, else the connection is one that gave an alert.
@@ -106,7 +106,7 @@ impl<F: LineWriter, H: Search> Keeper<F, H> {
         conn: ConnId,
         state: ConnState,
         report: Report,
-    ) -> Told
+    ) -> Outcome
         requires timed { IsSome (nanos_of now) }
         requires state { state ≡ (sessions_of (view_of self.old)).states conn }
         requires asked { (message : ClientMessage) × (judged state message ≡ Ok (requests.Alert report)) }
@@ -123,7 +123,7 @@ impl<F: LineWriter, H: Search> Keeper<F, H> {
                 info: report.info,
             },
         };
-        self.tell(
+        self.add_event(
             disk,
             conn,
             &event,
@@ -132,33 +132,33 @@ impl<F: LineWriter, H: Search> Keeper<F, H> {
     }
 
     /// Adds the line of an event, and then does this; where the line can't be added, the connection is refused.
-    pub(crate) fn tell<D: Disk>(
+    pub(crate) fn add_event<D: Disk>(
         &mut self,
         disk: &mut D,
         conn: ConnId,
         event: &Event,
         next: Next,
-    ) -> Told
+    ) -> Outcome
         requires timed { IsTimed event.now }
         requires writes_none { EntersNoLog next }
         requires stands { D.tells → (m : Machine) × Represents (view_of self.old) (D.view disk.old) m }
         requires room { 1 ≤ room (view_of self.old) }
         ensures { (now : TimeSpec) (asked : Request) → DoesCall D.tells now conn (λ m job. AsksFor (m.states conn) job.body asked × IsEventOf (settings_of (view_of self.old)) now conn (m.states conn) asked (line_of (view_of self.old).kind event.now) next m)
-            (conn ∷ []) (Unit {0}) (TellsFault result) result (view_of self.old) (view_of self.new) (D.view disk.old) (D.view disk.new) }
+            (conn ∷ []) (Unit {0}) (IsFaultRefusal result) result (view_of self.old) (view_of self.new) (D.view disk.old) (D.view disk.new) }
     {
         if let Err(why) = self.add_line(disk, conn, event) {
             self.enter_state(disk, conn, ConnState::Dead);
-            return Told::Refused(why);
+            return Outcome::Refused(why);
         }
         match next {
-            Next::Stays => Told::Nothing,
+            Next::Stays => Outcome::Nothing,
             Next::Enters(state) => {
                 self.enter_state(disk, conn, state);
-                Told::Nothing
+                Outcome::Nothing
             }
             Next::Ends => {
                 self.enter_state(disk, conn, ConnState::Dead);
-                Told::Shut
+                Outcome::Shut
             }
         }
     }

@@ -12,8 +12,8 @@ ghost use Rattle.lsv_keeper.specs.Views.{view_of};
 
 use crate::Keeper;
 use crate::logs::OpenLog;
+use crate::outcome::Outcome;
 use crate::resume::{restart_refusal, resume_log};
-use crate::told::Told;
 use lsv_base::{LogNo, Point};
 use lsv_disk::Disk;
 use lsv_hook::LineWriter;
@@ -25,7 +25,12 @@ use lsv_session::{ConnId, ConnState};
 impl<F: LineWriter, H: Search> Keeper<F, H> {
     /// Goes on with a log that nobody writes after its first record that ends at a point, and drops the records after that
     /// one; or refuses the connection.
-    pub(crate) fn restart<D: Disk>(&mut self, disk: &mut D, conn: ConnId, restart: Restart) -> Told
+    pub(crate) fn restart<D: Disk>(
+        &mut self,
+        disk: &mut D,
+        conn: ConnId,
+        restart: Restart,
+    ) -> Outcome
         requires stands { D.tells → (m : Machine) × Represents (view_of self.old) (D.view disk.old) m }
         requires room { 1 ≤ room (view_of self.old) }
         ensures done { (now : TimeSpec) → DoesRequest D.tells now conn (request.Restart restart) result (view_of self.old) (view_of self.new) (D.view disk.old) (D.view disk.new) }
@@ -36,11 +41,11 @@ impl<F: LineWriter, H: Search> Keeper<F, H> {
         match self.resume(disk, restart.log, restart.point) {
             Ok(its) => {
                 self.own(conn, restart.log, its);
-                Told::Nothing
+                Outcome::Nothing
             }
             Err(fault) => {
                 self.enter_state(disk, conn, ConnState::Dead);
-                Told::Refused(restart_refusal(fault))
+                Outcome::Refused(restart_refusal(fault))
             }
         }
     }

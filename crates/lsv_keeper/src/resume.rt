@@ -22,7 +22,7 @@ use lsv_mask::{Mask, Prompt, Search};
 use lsv_request::Refusal;
 use std::alloc::Global;
 
-/// Why a log isn't gone on with, as the connection is told.
+/// Why a log isn't gone on with, as the connection is answered.
 pub(crate) fn restart_refusal(fault: LogFault) -> Refusal
     ensures { result ≡ restart_refusal fault }
 {

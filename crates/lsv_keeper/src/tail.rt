@@ -13,7 +13,7 @@ ghost use Rattle.lsv_keeper.specs.Causes.{IsAmong, IsSteady, Says, StoreRose, Wa
 ghost use Rattle.std.specs.List.{AllByRecursion};
 
 use crate::Keeper;
-use crate::told::{Told, put_point, put_replies};
+use crate::outcome::{Outcome, put_point, put_replies};
 use lsv_base::LogNo;
 use lsv_bundle::BundleFault;
 use lsv_disk::Disk;
@@ -75,7 +75,12 @@ impl<F: LineWriter, H: Search> Keeper<F, H> {
             return;
         }
         self.enter_state(disk, conn, ConnState::Dead);
-        put_replies(self.alloc, out, conn, Told::Refused(Refusal::DeviceFault));
+        put_replies(
+            self.alloc,
+            out,
+            conn,
+            Outcome::Refused(Refusal::DeviceFault),
+        );
     }
 
     /// The logs that took a record in this turn have their commit points, by rising number.
@@ -112,7 +117,12 @@ impl<F: LineWriter, H: Search> Keeper<F, H> {
             Some(point) => put_point(out, conn, point),
             None => {
                 self.release(conn, ConnState::Dead, number);
-                put_replies(self.alloc, out, conn, Told::Refused(Refusal::DeviceFault));
+                put_replies(
+                    self.alloc,
+                    out,
+                    conn,
+                    Outcome::Refused(Refusal::DeviceFault),
+                );
             }
         }
     }

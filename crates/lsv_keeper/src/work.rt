@@ -16,8 +16,8 @@ ghost use Rattle.lsv_keeper.specs.Views.{view_of};
 ghost use Rattle.lsv_keeper.specs.Causes.{BringsLine, MayAnswer, Says};
 
 use crate::Keeper;
+use crate::outcome::{Outcome, put_replies};
 use crate::record::fits_window;
-use crate::told::{Told, put_replies};
 use lsv_base::TimeSpec;
 use lsv_disk::Disk;
 use lsv_hook::LineWriter;
@@ -44,12 +44,12 @@ impl<F: LineWriter, H: Search> Keeper<F, H> {
         ensures says { AreWhole (view_of self.old).logs → Says (λ k. k ≡ job.conn) (λ k. MayAnswer (BringsLine (view_of self.old).log_exit job.body) (view_of self.old) (D.view disk.old) (D.view disk.new)) out.old.items out.new.items }
     {
         let Job { conn, body } = job;
-        let told = self.answer(disk, now, conn, body);
-        put_replies(self.alloc, out, conn, told);
+        let outcome = self.answer(disk, now, conn, body);
+        put_replies(self.alloc, out, conn, outcome);
     }
 
     /// What a connection brings is done, or dropped where it was shut.
-    fn answer<D: Disk>(&mut self, disk: &mut D, now: TimeSpec, conn: ConnId, body: Body) -> Told
+    fn answer<D: Disk>(&mut self, disk: &mut D, now: TimeSpec, conn: ConnId, body: Body) -> Outcome
         requires timed { IsSome (nanos_of now) }
         requires stands { D.tells → (m : Machine) × Represents (view_of self.old) (D.view disk.old) m }
         requires room { 1 ≤ room (view_of self.old) }
@@ -70,7 +70,7 @@ impl<F: LineWriter, H: Search> Keeper<F, H> {
         conn: ConnId,
         state: ConnState,
         body: Body,
-    ) -> Told
+    ) -> Outcome
         requires timed { IsSome (nanos_of now) }
         requires state { state ≡ (sessions_of (view_of self.old)).states conn }
         requires alive { is_dead ((sessions_of (view_of self.old)).states conn) ≡ false }
@@ -94,7 +94,7 @@ impl<F: LineWriter, H: Search> Keeper<F, H> {
         conn: ConnId,
         state: ConnState,
         message: ClientMessage,
-    ) -> Told
+    ) -> Outcome
         requires timed { IsSome (nanos_of now) }
         requires state { state ≡ (sessions_of (view_of self.old)).states conn }
         requires alive { is_dead ((sessions_of (view_of self.old)).states conn) ≡ false }
@@ -128,7 +128,7 @@ impl<F: LineWriter, H: Search> Keeper<F, H> {
         conn: ConnId,
         state: ConnState,
         message: ClientMessage,
-    ) -> Told
+    ) -> Outcome
         requires timed { IsSome (nanos_of now) }
         requires state { state ≡ (sessions_of (view_of self.old)).states conn }
         requires alive { is_dead ((sessions_of (view_of self.old)).states conn) ≡ false }
@@ -148,7 +148,7 @@ impl<F: LineWriter, H: Search> Keeper<F, H> {
         conn: ConnId,
         state: ConnState,
         message: ClientMessage,
-    ) -> Told
+    ) -> Outcome
         requires timed { IsSome (nanos_of now) }
         requires state { state ≡ (sessions_of (view_of self.old)).states conn }
         requires alive { is_dead ((sessions_of (view_of self.old)).states conn) ≡ false }
@@ -172,7 +172,7 @@ impl<F: LineWriter, H: Search> Keeper<F, H> {
         conn: ConnId,
         state: ConnState,
         request: Request,
-    ) -> Told
+    ) -> Outcome
         requires timed { IsSome (nanos_of now) }
         requires state { state ≡ (sessions_of (view_of self.old)).states conn }
         requires asked { (message : ClientMessage) × IsWindowFit message × (judged state message ≡ Ok request) }
@@ -196,7 +196,7 @@ impl<F: LineWriter, H: Search> Keeper<F, H> {
         conn: ConnId,
         state: ConnState,
         request: Request,
-    ) -> Told
+    ) -> Outcome
         requires timed { IsSome (nanos_of now) }
         requires state { state ≡ (sessions_of (view_of self.old)).states conn }
         requires asked { (message : ClientMessage) × IsWindowFit message × (judged state message ≡ Ok request) }

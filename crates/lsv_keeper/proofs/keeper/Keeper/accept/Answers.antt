@@ -34,13 +34,13 @@ returns-then-expect_iobufs g c =
 pub returns : goal.returns
 returns g c = record {
   done =
-      let d = c.tell.ensures c.args.now (request.Accept c.args.accept) in
-      let v' = view_of c.tell.new.self in
+      let d = c.add_event.ensures c.args.now (request.Accept c.args.accept) in
+      let v' = view_of c.add_event.new.self in
       let old = g.D.Disk.view c.args.disk.now in
-      let new = g.D.Disk.view c.tell.new.disk in
+      let new = g.D.Disk.view c.add_event.new.disk in
       record {
         keeps = d.frame.keeps;
-        told = d.told;
+        named = d.named;
         row = λ told m job at e a.
             let v : KeeperView = view_of c.args.self.now in
             let k = c.args.conn in

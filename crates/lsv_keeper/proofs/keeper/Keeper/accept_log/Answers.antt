@@ -37,7 +37,7 @@ returns-in-Ok g c = record {
       (c.open_log.ensures.frame.syncs) in
       record {
         keeps = c.open_log.ensures.frame.keeps;
-        told = c.in-Ok.ensures.id;
+        named = c.in-Ok.ensures.id;
         row = λ told m job at e a.
             let d0 = c.args.disk.now in
             begun_at (view_of c.args.self.now) (view_of c.open_log.new.self) (g.D.Disk.view d0) (g.D.Disk.view c.open_log.new.disk) c.args.now c.args.conn c.args.head m c.in-Ok.opened.number c.in-Ok.opened.id
@@ -64,7 +64,7 @@ returns-in-Err g c = record {
       (c.open_log.ensures.frame.syncs told m at) (c.enter_state.ensures.frame.syncs told x.left x.represents)) in
       record {
         keeps = keeps_then (view_of c.args.self.now) (view_of c.open_log.new.self) (view_of c.enter_state.new.self) c.open_log.ensures.frame.keeps c.in-Err.ensures.room c.enter_state.ensures.frame.keeps c.enter_state.ensures.enters.shrinks;
-        told = tt;
+        named = tt;
         row = λ told m job at e a.
             let d0 = c.args.disk.now in
             let d1 = c.open_log.new.disk in

@@ -10,11 +10,11 @@ use Rattle.lsv_machine.specs.Machine.{is_dead}
 use Rattle.lsv_machine.specs.Work as work
 use Rattle.lsv_machine.proofs.Shapes.{fault_not}
 use Rattle.lsv_keeper.specs.Jobs.{DoesJob}
-use Rattle.lsv_keeper.specs.Rows.{IsTold}
+use Rattle.lsv_keeper.specs.Rows.{NamesLog}
 use Rattle.lsv_keeper.specs.Syncs.{Restarts}
 use Rattle.lsv_keeper.specs.Value.{settings_of}
 use Rattle.lsv_keeper.specs.Views.{view_of}
-use Rattle.lsv_keeper.specs.declared.told.Told.TheVariants as told_variants
+use Rattle.lsv_keeper.specs.declared.outcome.Outcome.TheVariants as outcome
 use Rattle.lsv_keeper.proofs.Causes.{quiet_told, refused_is}
 use Rattle.lsv_keeper.proofs.Judging.{bytes_refused, fault_fair}
 use Rattle.lsv_keeper.proofs.SparingLemmas.{spares_none}
@@ -36,7 +36,7 @@ returns-in-Bad g c = record {
       let new = g.D.Disk.view c.refuse.new.disk in
       record {
         keeps = (c.refuse.ensures.done c.args.now).frame.keeps;
-        told = subst IsTold (sym c.refuse.ensures.told) tt;
+        named = subst NamesLog (sym c.refuse.ensures.is) tt;
         row = λ told m job at conn is.
             let living : is_dead (m.states c.args.conn) ≡ false = ap is_dead (at.states c.args.conn) ∙ c.requires.alive in
             (c.refuse.ensures.done c.args.now).row told m job at conn (
@@ -46,7 +46,7 @@ returns-in-Bad g c = record {
             );
         syncs = λ told m at. of_none (Restarts c.args.body) v v' old new ((c.refuse.ensures.done c.args.now).frame.syncs told m at);
         spared = λ told m at. spares_none v v' old new m at ((c.refuse.ensures.done c.args.now).frame.syncs told m at);
-        does = quiet_told (λ e. fault_not c.in-Bad.fault (sym c.fault_refusal.ensures ∙ refused_is c.fault_refusal.result (sym c.refuse.ensures.told ∙ e))) (c.refuse.ensures.done c.args.now).frame.does;
+        does = quiet_told (λ e. fault_not c.in-Bad.fault (sym c.fault_refusal.ensures ∙ refused_is c.fault_refusal.result (sym c.refuse.ensures.is ∙ e))) (c.refuse.ensures.done c.args.now).frame.does;
       };
 }
 
@@ -59,10 +59,10 @@ returns-in-Gone g c = record {
       let new = g.D.Disk.view c.farewell.new.disk in
       record {
         keeps = (c.farewell.ensures.done c.args.now).frame.keeps;
-        told = subst IsTold (sym c.farewell.ensures.told) tt;
+        named = subst NamesLog (sym c.farewell.ensures.is) tt;
         row = λ told m job at conn is. (c.farewell.ensures.done c.args.now).row told m job at conn (is ∙ c.in-Gone.is, ap is_dead (at.states c.args.conn) ∙ c.requires.alive);
         syncs = λ told m at. of_none (Restarts c.args.body) v v' old new ((c.farewell.ensures.done c.args.now).frame.syncs told m at);
         spared = λ told m at. spares_none v v' old new m at ((c.farewell.ensures.done c.args.now).frame.syncs told m at);
-        does = quiet_told (λ e. let f : told_variants.Farewell ≡ told_variants.Refused DeviceFault = sym c.farewell.ensures.told ∙ e in cc) (c.farewell.ensures.done c.args.now).frame.does;
+        does = quiet_told (λ e. let f : outcome.Farewell ≡ outcome.Refused DeviceFault = sym c.farewell.ensures.is ∙ e in cc) (c.farewell.ensures.done c.args.now).frame.does;
       };
 }

@@ -1,5 +1,5 @@
 -- The line is written and added, and then its connection is noted, for which there is room.
-use Rattle.std.proofs.Common.{◌≡◌, ◌≤◌, ◌+◌, ◌++◌, ℕ, List, true, length, vec_capacity, vec_len, refl, sym, ◌∙◌, ap, subst, arith, inl, inr}
+use Rattle.std.proofs.Common.{◌≡◌, ◌≤◌, ◌+◌, ◌++◌, ℕ, List, true, length, vec_capacity, vec_len, refl, sym, ◌∙◌, ap, subst, arith, inl, inr, rules}
 use Rattle.lsv_event.specs.Lines.{line_of}
 use Rattle.lsv_session.specs.declared.connection.ConnId.{ConnId}
 use Rattle.lsv_machine.specs.Machine.{note}
@@ -23,6 +23,7 @@ pub returns-in_default-clause-frame : goal.returns-in_default-clause-frame
 returns-in_default-clause-frame g c = record {
   keeps = keeps_same (view_of c.args.self.now);
   same = record { table = refl; logs = refl; numbers = refl; waiting = refl };
+  noting = search rules;
   beside = λ told m at.
       let v : KeeperView = view_of c.args.self.now in
       let disk = c.args.disk.now in
@@ -35,6 +36,7 @@ pub returns-then-is_err-clause-frame : goal.returns-then-is_err-clause-frame
 returns-then-is_err-clause-frame g c = record {
   keeps = let long = ap length c.reserve.ensures.items in record { lane = refl; lanes = refl; log_exit = refl; kind = refl; texts = refl; room_is = omega arith; owed = omega (arith, long) };
   same = record { table = refl; logs = refl; numbers = refl; waiting = refl };
+  noting = search rules;
   beside = λ told m at.
       let v : KeeperView = view_of c.args.self.now in
       let disk = c.args.disk.now in
@@ -47,6 +49,7 @@ pub returns-in_err-stage_line-clause-frame : goal.returns-in_err-stage_line-clau
 returns-in_err-stage_line-clause-frame g c = record {
   keeps = let long = ap length c.reserve.ensures.items in record { lane = refl; lanes = refl; log_exit = refl; kind = refl; texts = refl; room_is = omega arith; owed = omega (arith, long) };
   same = record { table = refl; logs = refl; numbers = refl; waiting = refl };
+  noting = search rules;
   beside = λ told m at. c.stage_line.ensures.frame.beside told (view_of c.args.self.now) m refl refl at;
   syncs = c.stage_line.ensures.frame.syncs;
   does = line_does (λ e. same_err c.from_residual.result c.in_err-stage_line.field-0.0 DeviceFault c.from_residual.ensures.1 e) (record { table = refl; logs = refl; numbers = refl; waiting = refl }) c.in_err-stage_line.ensures.frame.does (inl c.reserve.ensures.items);
@@ -73,6 +76,7 @@ returns-clause-frame g c = record {
       let most = note_longer c.args.conn c.args.self.now.noting.items in
       record { lane = refl; lanes = refl; log_exit = refl; kind = refl; texts = refl; room_is = omega arith; owed = omega (arith, long, most) };
   same = record { table = refl; logs = refl; numbers = refl; waiting = refl };
+  noting = search rules;
   beside = λ told m at. c.stage_line.ensures.frame.beside told (view_of c.args.self.now) m refl refl at;
   syncs = c.stage_line.ensures.frame.syncs;
   does =

@@ -7,7 +7,7 @@ use Rattle.lsv_machine.specs.Machine.{Machine, is_dead, without_conn}
 use Rattle.lsv_keeper.specs.Rows.{Left, RowGives}
 use Rattle.lsv_keeper.specs.Value.{KeeperView, Keeps}
 use Rattle.lsv_keeper.specs.Views.{view_of}
-use Rattle.lsv_keeper.specs.declared.told.Told.TheVariants.{Nothing}
+use Rattle.lsv_keeper.specs.declared.outcome.Outcome.TheVariants.{Nothing}
 use Rattle.lsv_keeper.specs.Syncing.{NoLog, Syncs}
 use Rattle.lsv_keeper.proofs.Departing.{forget_represents, keeps_forget, keeps_same}
 use Rattle.lsv_keeper.proofs.Frames.{Laws}
@@ -53,7 +53,7 @@ returns-clause-done g c now = record {
               (subst (λ d. Does [] ⊥ ⊥ v v old (g.D.Disk.view d)) (sym w.disk-is) (does_none (λ none. none)))
         ];
   };
-  told = tt;
+  named = tt;
   row = λ told m job at is (body, dead).
       let old : DiskView = g.D.Disk.view c.args.disk.now in
       let laws : Laws old = record { reads_itself = g.met.D.Disk.reads_itself told c.args.disk.now; is_now = g.met.D.Disk.is_now told c.args.disk.now; only_now = g.met.D.Disk.only_now told c.args.disk.now } in

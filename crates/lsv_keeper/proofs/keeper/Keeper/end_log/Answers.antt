@@ -21,7 +21,7 @@ use Rattle.lsv_keeper.specs.Rows.{Left, RowGives}
 use Rattle.lsv_keeper.specs.declared.logs.OpenLog.{OpenLog}
 use Rattle.lsv_keeper.specs.Value.{KeeperView, log_in, sessions_of}
 use Rattle.lsv_keeper.specs.Views.{view_of}
-use Rattle.lsv_keeper.specs.declared.told.Told.TheVariants as told
+use Rattle.lsv_keeper.specs.declared.outcome.Outcome.TheVariants as outcome
 use Rattle.lsv_keeper.specs.Syncing.{NoLog, Syncs}
 use Rattle.lsv_keeper.proofs.Departing.{departs_keeps, departs_owed, room_one, value_of}
 use Rattle.lsv_keeper.proofs.ExitEnds.{EndsLog, closed_ones, departs_from, keeps_from, keeps_line, log_failed, log_line_refused, log_not_ended, log_told, stands_told, unended_out}
@@ -39,7 +39,7 @@ err why = Err why
 
 pub returns-in_default : goal.returns-in_default
 returns-in_default g c =
-    done_if_writing g.D.Disk.tells c.args.now c.args.conn c.args.log (request.Exit c.args.exit) told.Nothing (view_of c.args.self.now) (view_of (record c.args.self.now { logs = c.take.new.self })) (g.D.Disk.view c.args.disk.now) (g.D.Disk.view c.args.disk.now)
+    done_if_writing g.D.Disk.tells c.args.now c.args.conn c.args.log (request.Exit c.args.exit) outcome.Nothing (view_of c.args.self.now) (view_of (record c.args.self.now { logs = c.take.new.self })) (g.D.Disk.view c.args.disk.now) (g.D.Disk.view c.args.disk.now)
     (keeps_logs (view_of c.args.self.now) c.take.new.self)
     tt
     (λ told_is m job at is state asks. absurd (written_open (view_of c.args.self.now) (g.D.Disk.view c.args.disk.now) m c.args.conn c.args.log at state (λ its here. let e : None ≡ Some its = sym c.in_default.is ∙ c.take.ensures.taken ∙ here in absurd (cc))))
@@ -51,7 +51,7 @@ release-requires g c = record { room = let x = room_one ((sessions_of (view_of c
 
 pub returns-then-is_complete : goal.returns-then-is_complete
 returns-then-is_complete g c =
-    done_if_writing g.D.Disk.tells c.args.now c.args.conn c.args.log (request.Exit c.args.exit) told.Nothing (view_of c.args.self.now) (view_of c.release.new.self) (g.D.Disk.view c.args.disk.now) (g.D.Disk.view c.args.disk.now)
+    done_if_writing g.D.Disk.tells c.args.now c.args.conn c.args.log (request.Exit c.args.exit) outcome.Nothing (view_of c.args.self.now) (view_of c.release.new.self) (g.D.Disk.view c.args.disk.now) (g.D.Disk.view c.args.disk.now)
     (let v : KeeperView = view_of c.args.self.now in
     let v1 : KeeperView = view_of c.release.new.self in
     departs_keeps (Some c.args.log) c.args.conn Dead v v1 (departs_from v v1 c.take.new.self (Some c.args.log) c.args.conn Dead c.release.ensures.departs) c.release.ensures.room)
@@ -74,7 +74,7 @@ finish-requires-clause-represents g c told_is whole =
 
 pub returns-in-Ok-exit_line : goal.returns-in-Ok-exit_line
 returns-in-Ok-exit_line g c =
-    done_if_writing g.D.Disk.tells c.args.now c.args.conn c.args.log (request.Exit c.args.exit) (told.Finished c.in-Ok.point) (view_of c.args.self.now) (view_of c.exit_line.new.self) (g.D.Disk.view c.args.disk.now) (g.D.Disk.view c.exit_line.new.disk)
+    done_if_writing g.D.Disk.tells c.args.now c.args.conn c.args.log (request.Exit c.args.exit) (outcome.Finished c.in-Ok.point) (view_of c.args.self.now) (view_of c.exit_line.new.self) (g.D.Disk.view c.args.disk.now) (g.D.Disk.view c.exit_line.new.disk)
     (let v1 : KeeperView = view_of c.release-in-Ok.new.self in
     let departs : Departs (Some c.args.log) c.args.conn Dead (view_of c.args.self.now) v1 = departs_from (view_of c.args.self.now) v1 c.take.new.self (Some c.args.log) c.args.conn Dead c.release-in-Ok.ensures.departs in
     keeps_line (view_of c.args.self.now) v1 (view_of c.exit_line.new.self) (departs_keeps (Some c.args.log) c.args.conn Dead (view_of c.args.self.now) v1 departs c.release-in-Ok.ensures.room)
@@ -98,7 +98,7 @@ returns-in-Ok-exit_line g c =
     (λ image left value rep. subst (λ (n : ℕ). Replays image n (Some (finished value (exit_text c.args.exit)))) c.finish.ensures.counts.number
     (every_image c.finish.new.self (bare (finished value (exit_text c.args.exit))) mid (c.in-Ok.ensures.represents told_is value rep) image left)) in
     let stands = stands_told v v1 old mid m c.args.log c.args.now its c.args.exit c.in-Some.its laws laws' at asks state here ends departs closed all in
-    subst (λ (j : Job). RowGives v c.args.now j (told.Finished c.in-Ok.point) m v2 old new) same_job
+    subst (λ (j : Job). RowGives v c.args.now j (outcome.Finished c.in-Ok.point) m v2 old new) same_job
     (log_told v v1 old mid m c.args.log c.args.now its c.args.exit c.in-Some.its laws laws' at asks state here ends departs closed v2 new c.in-Ok.point all c.in-Ok.ensures.elapsed
     (c.exit_line.ensures.frame.beside told_is _ stands) (λ y rep. c.in-Ok-exit_line.ensures.added told_is y rep)))
     (λ told_is m at state. let v : KeeperView = view_of c.args.self.now in
@@ -116,7 +116,7 @@ returns-in-Ok-exit_line g c =
 
 pub returns-in-Ok : goal.returns-in-Ok
 returns-in-Ok g c =
-    done_if_writing g.D.Disk.tells c.args.now c.args.conn c.args.log (request.Exit c.args.exit) (told.Refused c.in-Err-exit_line.why) (view_of c.args.self.now) (view_of c.exit_line.new.self) (g.D.Disk.view c.args.disk.now) (g.D.Disk.view c.exit_line.new.disk)
+    done_if_writing g.D.Disk.tells c.args.now c.args.conn c.args.log (request.Exit c.args.exit) (outcome.Refused c.in-Err-exit_line.why) (view_of c.args.self.now) (view_of c.exit_line.new.self) (g.D.Disk.view c.args.disk.now) (g.D.Disk.view c.exit_line.new.disk)
     (let v1 : KeeperView = view_of c.release-in-Ok.new.self in
     let departs : Departs (Some c.args.log) c.args.conn Dead (view_of c.args.self.now) v1 = departs_from (view_of c.args.self.now) v1 c.take.new.self (Some c.args.log) c.args.conn Dead c.release-in-Ok.ensures.departs in
     keeps_line (view_of c.args.self.now) v1 (view_of c.exit_line.new.self) (departs_keeps (Some c.args.log) c.args.conn Dead (view_of c.args.self.now) v1 departs c.release-in-Ok.ensures.room)
@@ -140,7 +140,7 @@ returns-in-Ok g c =
     (λ image left value rep. subst (λ (n : ℕ). Replays image n (Some (finished value (exit_text c.args.exit)))) c.finish.ensures.counts.number
     (every_image c.finish.new.self (bare (finished value (exit_text c.args.exit))) mid (c.in-Ok.ensures.represents told_is value rep) image left)) in
     let stands = stands_told v v1 old mid m c.args.log c.args.now its c.args.exit c.in-Some.its laws laws' at asks state here ends departs closed all in
-    subst (λ (j : Job). RowGives v c.args.now j (told.Refused c.in-Err-exit_line.why) m v2 old new) same_job
+    subst (λ (j : Job). RowGives v c.args.now j (outcome.Refused c.in-Err-exit_line.why) m v2 old new) same_job
     (log_line_refused v v1 old mid m c.args.log c.args.now its c.args.exit c.in-Some.its laws laws' at asks state here ends departs closed v2 new c.in-Err-exit_line.why all
     (c.exit_line.ensures.frame.beside told_is _ stands) (λ y rep. c.in-Err-exit_line.ensures.refused told_is y rep)))
     (λ told_is m at state. let v : KeeperView = view_of c.args.self.now in
@@ -158,7 +158,7 @@ returns-in-Ok g c =
 
 pub returns-in-Disk : goal.returns-in-Disk
 returns-in-Disk g c =
-    done_if_writing g.D.Disk.tells c.args.now c.args.conn c.args.log (request.Exit c.args.exit) (told.Refused refusals.DeviceFault) (view_of c.args.self.now) (view_of c.release-in-Disk.new.self) (g.D.Disk.view c.args.disk.now) (g.D.Disk.view c.finish.new.disk)
+    done_if_writing g.D.Disk.tells c.args.now c.args.conn c.args.log (request.Exit c.args.exit) (outcome.Refused refusals.DeviceFault) (view_of c.args.self.now) (view_of c.release-in-Disk.new.self) (g.D.Disk.view c.args.disk.now) (g.D.Disk.view c.finish.new.disk)
     (let v : KeeperView = view_of c.args.self.now in
     let v1 : KeeperView = view_of c.release-in-Disk.new.self in
     departs_keeps (Some c.args.log) c.args.conn Dead v v1 (departs_from v v1 c.take.new.self (Some c.args.log) c.args.conn Dead c.release-in-Disk.ensures.departs) c.release-in-Disk.ensures.room)
@@ -176,7 +176,7 @@ returns-in-Disk g c =
     let ends : EndsLog c.in-Some.its.log (exit_text c.args.exit) old mid = record { moments = λ value rep. c.finish.ensures.any_moment told_is value rep; monotone = c.finish.ensures.cause.monotone; room = c.finish.ensures.room failed } in
     let departs : Departs (Some c.args.log) c.args.conn Dead v v1 = departs_from v v1 c.take.new.self (Some c.args.log) c.args.conn Dead c.release-in-Disk.ensures.departs in
     let closed = closed_ones v v1 c.take.new.self c.args.log c.release-in-Disk.ensures.logs c.take.ensures.rest in
-    subst (λ (j : Job). RowGives v c.args.now j (told.Refused refusals.DeviceFault) m v1 old mid) same_job
+    subst (λ (j : Job). RowGives v c.args.now j (outcome.Refused refusals.DeviceFault) m v1 old mid) same_job
     (log_failed v v1 old mid m c.args.log c.args.now its c.args.exit c.in-Some.its laws laws' at asks state here ends departs closed (c.finish.ensures.cause.risen failed)))
     (λ told_is m at state. let v : KeeperView = view_of c.args.self.now in
     let v1 : KeeperView = view_of c.release-in-Disk.new.self in
@@ -205,7 +205,7 @@ let_go-requires g c = record {
 
 pub returns : goal.returns
 returns g c =
-    done_if_writing g.D.Disk.tells c.args.now c.args.conn c.args.log (request.Exit c.args.exit) (told.Refused c.log_refusal.result) (view_of c.args.self.now) (view_of c.let_go.new.self) (g.D.Disk.view c.args.disk.now) (g.D.Disk.view c.let_go.new.disk)
+    done_if_writing g.D.Disk.tells c.args.now c.args.conn c.args.log (request.Exit c.args.exit) (outcome.Refused c.log_refusal.result) (view_of c.args.self.now) (view_of c.let_go.new.self) (g.D.Disk.view c.args.disk.now) (g.D.Disk.view c.let_go.new.disk)
     (keeps_from (view_of c.args.self.now) (view_of c.let_go.new.self) c.take.new.self c.let_go.ensures.gone.keeps)
     tt
     (λ told_is m job at is state asks.
@@ -223,8 +223,8 @@ returns g c =
     let gone : Left c.args.conn Dead v m v' old new =
     subst (λ d. Left c.args.conn Dead v m v' (g.D.Disk.view d) new) un.1
     (c.let_go.ensures.gone.left told_is v m out (subst (λ d. keepers.Represents v (g.D.Disk.view d) m) (sym un.1) at) state) in
-    subst (λ (j : Job). RowGives v c.args.now j (told.Refused c.log_refusal.result) m v' old new) same_job
-    (subst (λ (why : Refusal). RowGives v c.args.now its (told.Refused why) m v' old new) (sym c.log_refusal.ensures)
+    subst (λ (j : Job). RowGives v c.args.now j (outcome.Refused c.log_refusal.result) m v' old new) same_job
+    (subst (λ (why : Refusal). RowGives v c.args.now its (outcome.Refused why) m v' old new) (sym c.log_refusal.ensures)
     (log_not_ended v v' old new m c.args.log c.args.now its c.args.exit c.in-Some.its c.in-Err.fault laws at asks state here c.in-Err.ensures.fault c.in_default-fault.not-Disk
     (λ e. c.finish.ensures.broken.0 (c.in-Err.is ∙ ap (λ (f : LogFault). Err f) e)) (λ e. c.finish.ensures.full (c.in-Err.is ∙ ap (λ (f : LogFault). Err f) e)) gone)))
     (λ told_is m at state.

@@ -8,7 +8,7 @@ use Rattle.lsv_machine.specs.Machine.{is_dead, leaves}
 use Rattle.lsv_keeper.specs.Rows.{RowGives}
 use Rattle.lsv_keeper.specs.Value.{KeeperView, sessions_of}
 use Rattle.lsv_keeper.specs.Views.{view_of}
-use Rattle.lsv_keeper.specs.declared.told.Told.TheVariants as told
+use Rattle.lsv_keeper.specs.declared.outcome.Outcome.TheVariants as outcome
 use Rattle.lsv_keeper.specs.Syncing.{NoLog}
 use Rattle.lsv_keeper.proofs.Departing.{room_one}
 use Rattle.lsv_keeper.proofs.ExitEnds.{keeps_line, session_refused, session_stands, session_told, set_by}
@@ -38,7 +38,7 @@ returns-in-Ok g c = record {
         (c.enter_state.ensures.frame.syncs told m at) (line_quiet NoLog (view_of c.enter_state.new.self) (view_of c.exit_line.new.self) (g.D.Disk.view c.enter_state.new.disk) (g.D.Disk.view c.exit_line.new.disk) c.exit_line.ensures.frame.same (c.exit_line.ensures.frame.syncs told));
     does = quiet_then (λ e. absurd (cc)) c.enter_state.ensures.frame.does (does_needs (λ e. sym c.enter_state.ensures.frame.keeps.log_exit ∙ e) c.in-Ok.ensures.frame.does);
   };
-  told = tt;
+  named = tt;
   row = λ told_is m job at is (none, asks).
       let v : KeeperView = view_of c.args.self.now in
       let v1 : KeeperView = view_of c.enter_state.new.self in
@@ -53,7 +53,7 @@ returns-in-Ok g c = record {
       let alive : is_dead (m.states c.args.conn) ≡ false = asks_alive (m.states c.args.conn) job.body (request.Exit c.args.exit) asks in
       let left = c.enter_state.ensures.left told_is m at in
       let stands = session_stands v v1 d0 d1 m c.args.conn none left in
-      subst (λ (j : Job). RowGives v c.args.now j told.Shut m v2 d0 d2) same_job
+      subst (λ (j : Job). RowGives v c.args.now j outcome.Shut m v2 d0 d2) same_job
       (session_told v v1 v2 d0 d1 d2 m c.args.now its c.args.exit laws laws' alive asks none left (set_by v v1 c.enter_state.ensures.frame.keeps)
       (c.exit_line.ensures.frame.beside told_is (leaves c.args.conn Dead m) stands) (c.in-Ok.ensures.added told_is (leaves c.args.conn Dead m) stands));
 }
@@ -67,7 +67,7 @@ returns-in-Err g c = record {
         (c.enter_state.ensures.frame.syncs told m at) (line_quiet NoLog (view_of c.enter_state.new.self) (view_of c.exit_line.new.self) (g.D.Disk.view c.enter_state.new.disk) (g.D.Disk.view c.exit_line.new.disk) c.exit_line.ensures.frame.same (c.exit_line.ensures.frame.syncs told));
     does = quiet_then (λ e. ap (λ (w : Refusal). err w) (refused_is c.in-Err.why e)) c.enter_state.ensures.frame.does (does_needs (λ e. sym c.enter_state.ensures.frame.keeps.log_exit ∙ e) c.in-Err.ensures.frame.does);
   };
-  told = tt;
+  named = tt;
   row = λ told_is m job at is (none, asks).
       let v : KeeperView = view_of c.args.self.now in
       let v1 : KeeperView = view_of c.enter_state.new.self in
@@ -82,7 +82,7 @@ returns-in-Err g c = record {
       let alive : is_dead (m.states c.args.conn) ≡ false = asks_alive (m.states c.args.conn) job.body (request.Exit c.args.exit) asks in
       let left = c.enter_state.ensures.left told_is m at in
       let stands = session_stands v v1 d0 d1 m c.args.conn none left in
-      subst (λ (j : Job). RowGives v c.args.now j (told.Refused c.in-Err.why) m v2 d0 d2) same_job
+      subst (λ (j : Job). RowGives v c.args.now j (outcome.Refused c.in-Err.why) m v2 d0 d2) same_job
       (session_refused v v1 v2 d0 d1 d2 m c.args.now its c.args.exit laws laws' alive asks none left (set_by v v1 c.enter_state.ensures.frame.keeps)
       (c.exit_line.ensures.frame.beside told_is (leaves c.args.conn Dead m) stands) c.in-Err.why (c.in-Err.ensures.refused told_is (leaves c.args.conn Dead m) stands));
 }

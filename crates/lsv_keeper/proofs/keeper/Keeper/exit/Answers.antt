@@ -38,7 +38,7 @@ returns-in-None g c = record {
       let new = g.D.Disk.view c.end_session.new.disk in
       record {
         keeps = c.end_session.ensures.frame.keeps;
-        told = c.end_session.ensures.told;
+        named = c.end_session.ensures.named;
         row = λ told m job at is asks. c.end_session.ensures.row told m job at is (ap log_of (at.states c.args.conn ∙ sym c.requires.state) ∙ sym c.log_of.ensures ∙ c.in-None.is, asks);
         syncs = λ told m at. of_none (GoesOnWith (request.Exit c.args.exit)) v v' old new (c.end_session.ensures.frame.syncs told m at);
         spared = λ told m at. spares_none v v' old new m at (c.end_session.ensures.frame.syncs told m at);

@@ -1,4 +1,4 @@
-use Rattle.std.proofs.Common.{None, refl}
+use Rattle.std.proofs.Common.{None, refl, rules}
 use Rattle.lsv_disk.specs.View.{DiskView}
 use Rattle.lsv_keeper.specs.Views.{view_of}
 use Rattle.lsv_keeper.proofs.Frames.{Laws, beside_none}
@@ -12,6 +12,7 @@ pub returns-then-not-self-clause-frame : goal.returns-then-not-self-clause-frame
 returns-then-not-self-clause-frame g c = record {
   keeps = keeps_same (view_of c.args.self.now);
   same = record { table = refl; logs = refl; numbers = refl; waiting = refl };
+  noting = search rules;
   beside = λ told m at.
       let disk : DiskView = g.D.Disk.view c.args.disk.now in
       let laws : Laws disk = record { reads_itself = g.met.D.Disk.reads_itself told c.args.disk.now; is_now = g.met.D.Disk.is_now told c.args.disk.now; only_now = g.met.D.Disk.only_now told c.args.disk.now } in

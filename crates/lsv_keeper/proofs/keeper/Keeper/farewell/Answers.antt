@@ -36,7 +36,7 @@ returns-clause-done g c now = record {
         (c.enter_state.ensures.frame.syncs told (record m { noting = without_conn c.args.conn m.noting }) (forget_represents v old m c.args.conn c.forget.new.conns.items c.forget.ensures at));
     does = forgotten_then c.args.conn c.forget.new.conns.items c.forget.ensures c.enter_state.ensures.frame.does;
   };
-  told = tt;
+  named = tt;
   row = λ told m job at is (gone, alive).
       let old : DiskView = g.D.Disk.view c.args.disk.now in
       let new : DiskView = g.D.Disk.view c.enter_state.new.disk in

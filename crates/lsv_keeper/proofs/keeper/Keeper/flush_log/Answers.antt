@@ -13,7 +13,7 @@ use Rattle.lsv_keeper.specs.Causes.{IsAmong, StoreRose}
 use Rattle.lsv_machine.proofs.Choices.{SomeOr.nothing, SomeOr.just, some_or}
 use Rattle.lsv_keeper.specs.Value.{log_in}
 use Rattle.lsv_request.specs.declared.refusal.Refusal.TheVariants.{DeviceFault}
-use Rattle.lsv_keeper.specs.declared.told.Told.TheVariants as told
+use Rattle.lsv_keeper.specs.declared.outcome.Outcome.TheVariants as outcome
 use Rattle.lsv_machine.specs.Machine.{without_log}
 use Rattle.lsv_keeper.proofs.keeper.Keeper.flush_log.Goals as goal
 
@@ -102,4 +102,4 @@ returns-in-None-clause-says g c p it whole =
       | nothing none ↦ absurd (mine.1 none)
       | just its here ↦ c.in-None.ensures.keeps.flushed.1 its here (whole c.args.number its here)
     ] in
-    says_as (λ j. j ≡ c.in-Some.conn) (IsAmong p) _ _ c.args.out.now.items c.put_replies.new.out.items (λ j is. subst (IsAmong p) (sym is) mine.0) (λ j is e. rose) (says_told c.in-Some.conn (told.Refused DeviceFault) t.answers c.args.out.now.items c.put_replies.new.out.items t.says t.items)
+    says_as (λ j. j ≡ c.in-Some.conn) (IsAmong p) _ _ c.args.out.now.items c.put_replies.new.out.items (λ j is. subst (IsAmong p) (sym is) mine.0) (λ j is e. rose) (says_told c.in-Some.conn (outcome.Refused DeviceFault) t.answers c.args.out.now.items c.put_replies.new.out.items t.says t.items)

@@ -26,7 +26,7 @@ returns g c = record {
       let new = g.D.Disk.view c.enter_state.new.disk in
       record {
         keeps = c.enter_state.ensures.frame.keeps;
-        told = tt;
+        named = tt;
         row = λ told m job at e a.
             let d0 = c.args.disk.now in
             greets_at v v' old new c.args.conn m (record { reads_itself = g.met.D.Disk.reads_itself told d0; is_now = g.met.D.Disk.is_now told d0; only_now = g.met.D.Disk.only_now told d0 })

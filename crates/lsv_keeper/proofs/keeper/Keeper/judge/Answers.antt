@@ -8,7 +8,7 @@ use Rattle.lsv_session.specs.declared.job.Body.TheVariants as bodies
 use Rattle.lsv_machine.specs.Failures.{AsksFor}
 use Rattle.lsv_machine.specs.Judgement.{judged}
 use Rattle.lsv_machine.specs.Machine.{is_dead}
-use Rattle.lsv_keeper.specs.Rows.{IsTold}
+use Rattle.lsv_keeper.specs.Rows.{NamesLog}
 use Rattle.lsv_keeper.specs.Value.{settings_of}
 use Rattle.lsv_keeper.specs.Views.{view_of}
 use Rattle.lsv_keeper.specs.Syncing.{GoesOnWith}
@@ -30,7 +30,7 @@ returns-in-Ok g c = record {
       let d = c.work.ensures.done in
       record {
         keeps = d.keeps;
-        told = d.told;
+        named = d.named;
         row = λ told m job at conn is. d.row told m job at conn (subst (λ (b : Body). AsksFor (m.states c.args.conn) b c.in-Ok.request) (sym is)
             (ap (λ (s : ConnState). judged s c.args.message) (at.states c.args.conn ∙ sym c.requires.state ∙ sym c.copied.ensures) ∙ sym c.in-Ok.ensures));
         syncs = λ told m at.
@@ -51,7 +51,7 @@ returns-in-Err g c = record {
       let new = g.D.Disk.view c.refuse.new.disk in
       record {
         keeps = (c.refuse.ensures.done c.args.now).frame.keeps;
-        told = subst IsTold (sym c.refuse.ensures.told) tt;
+        named = subst NamesLog (sym c.refuse.ensures.is) tt;
         row = λ told m job at conn is.
             let alive : is_dead (m.states c.args.conn) ≡ false = ap is_dead (at.states c.args.conn) ∙ c.requires.alive in
             let e : judged (m.states c.args.conn) c.args.message ≡ Err c.in-Err.why =
@@ -63,6 +63,6 @@ returns-in-Err g c = record {
             );
         syncs = λ told m at. of_none (Restarts (bodies.Msg c.args.message)) v v' old new ((c.refuse.ensures.done c.args.now).frame.syncs told m at);
         spared = λ told m at. spares_none v v' old new m at ((c.refuse.ensures.done c.args.now).frame.syncs told m at);
-        does = quiet_told (λ e. subst Innocent (sym c.in-Err.ensures) (judged_innocent c.copied.result c.args.message) (refused_is c.in-Err.why (sym c.refuse.ensures.told ∙ e))) (c.refuse.ensures.done c.args.now).frame.does;
+        does = quiet_told (λ e. subst Innocent (sym c.in-Err.ensures) (judged_innocent c.copied.result c.args.message) (refused_is c.in-Err.why (sym c.refuse.ensures.is ∙ e))) (c.refuse.ensures.done c.args.now).frame.does;
       };
 }

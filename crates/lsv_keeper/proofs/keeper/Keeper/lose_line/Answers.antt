@@ -8,7 +8,7 @@ use Rattle.lsv_keeper.proofs.TailRefusals.{refuses_no_more, refuses_one}
 use Rattle.lsv_keeper.proofs.Causes.{does_none}
 use Rattle.lsv_keeper.proofs.Saying.{says_as, says_none, says_told}
 use Rattle.lsv_request.specs.declared.refusal.Refusal.TheVariants.{DeviceFault}
-use Rattle.lsv_keeper.specs.declared.told.Told.TheVariants as told
+use Rattle.lsv_keeper.specs.declared.outcome.Outcome.TheVariants as outcome
 use Rattle.lsv_keeper.proofs.Syncing.{nothing}
 use Rattle.lsv_keeper.specs.Syncing.{NoLog}
 use Rattle.lsv_keeper.proofs.keeper.Keeper.lose_line.Goals as goal
@@ -58,4 +58,4 @@ returns-in-Dead-clause-says g c = says_none _ (λ k. Unit {0}) c.args.out.now.it
 pub returns-clause-says : goal.returns-clause-says
 returns-clause-says g c =
     let t = c.put_replies.ensures in
-    says_as (λ j. j ≡ c.args.conn) (λ j. j ≡ c.args.conn) _ (λ k. Unit {0}) c.args.out.now.items c.put_replies.new.out.items (λ j is. is) (λ j is e. tt) (says_told c.args.conn (told.Refused DeviceFault) t.answers c.args.out.now.items c.put_replies.new.out.items t.says t.items)
+    says_as (λ j. j ≡ c.args.conn) (λ j. j ≡ c.args.conn) _ (λ k. Unit {0}) c.args.out.now.items c.put_replies.new.out.items (λ j is. is) (λ j is e. tt) (says_told c.args.conn (outcome.Refused DeviceFault) t.answers c.args.out.now.items c.put_replies.new.out.items t.says t.items)

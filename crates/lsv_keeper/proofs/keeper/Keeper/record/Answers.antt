@@ -4,7 +4,7 @@ use Rattle.lsv_disk.specs.View.{DiskView}
 use Rattle.lsv_request.specs.declared.request.Request.TheVariants as request
 use Rattle.lsv_machine.specs.Machine.{Machine, log_of}
 use Rattle.lsv_keeper.specs.Represents.{Represents}
-use Rattle.lsv_keeper.specs.Rows.{RowGives, told_of}
+use Rattle.lsv_keeper.specs.Rows.{RowGives, outcome_of}
 use Rattle.lsv_keeper.specs.Value.{Keeps, KeeperView}
 use Rattle.lsv_keeper.specs.Views.{view_of}
 use Rattle.lsv_keeper.specs.Syncing.{GoesOnWith, NoLog, Syncs}
@@ -12,10 +12,10 @@ use Rattle.lsv_keeper.proofs.Refusing.{asks_stays, record_writes, same_waiting}
 use Rattle.lsv_keeper.proofs.Requests.{asks_alive}
 use Rattle.lsv_keeper.proofs.Syncing.{nothing, of_none}
 use Rattle.lsv_keeper.proofs.Causes.{does_free, does_none, quiet_told}
-use Rattle.lsv_keeper.specs.Causes.{Does, TellsFault}
+use Rattle.lsv_keeper.specs.Causes.{Does, IsFaultRefusal}
 use Rattle.lsv_request.specs.declared.refusal.Refusal.TheVariants.{DeviceFault, OutOfMemory}
-use Rattle.lsv_keeper.specs.declared.told.Told.TheVariants as told
-use Rattle.lsv_keeper.specs.declared.told.Told.{Told}
+use Rattle.lsv_keeper.specs.declared.outcome.Outcome.TheVariants as outcome
+use Rattle.lsv_keeper.specs.declared.outcome.Outcome.{Outcome}
 use Rattle.lsv_keeper.proofs.Departing.{keeps_same}
 use Rattle.lsv_keeper.proofs.SparingLemmas.{spares_none, spares_same}
 use Rattle.lsv_keeper.proofs.keeper.Keeper.record.Goals as goal
@@ -34,7 +34,7 @@ returns-in_default g c = record {
       let old : DiskView = g.D.Disk.view c.args.disk.now in
       record {
         keeps = keeps_same v;
-        told = tt;
+        named = tt;
         row = λ told m job at is asks.
             absurd (record_writes (m.states c.args.conn) job.body c.args.r asks (ap log_of (at.states c.args.conn ∙ sym c.requires.state) ∙ sym c.log_of.ensures ∙ c.in_default.is));
         syncs = λ told m at. nothing (GoesOnWith (request.Record c.args.r)) v v old refl refl;
@@ -56,15 +56,15 @@ returns-then-is_err g c = record {
       (d.frame.syncs told m (subst (λ (w : KeeperView). Represents w old m) (sym same) at))) in
       record {
         keeps = subst (λ (w : KeeperView). Keeps w v') same d.frame.keeps;
-        told = d.told;
+        named = d.named;
         row = λ told m job at is asks.
             subst (λ (w : KeeperView). RowGives w now job c.want_memory.result m v' old new) same
             (d.row told m job (subst (λ (w : KeeperView). Represents w old m) (sym same) at) is
             (asks_alive (m.states c.args.conn) job.body (request.Record c.args.r) asks, asks_stays (m.states c.args.conn) job.body (request.Record c.args.r) asks));
         syncs = λ told m at. of_none (GoesOnWith (request.Record c.args.r)) v v' old new (unsynced told m at);
         spared = λ told m at. spares_none v v' old new m at (unsynced told m at);
-        does = does_free (subst (λ (w : KeeperView). Does (c.args.conn ∷ []) ⊥ (TellsFault c.want_memory.result) w v' old new) same
-            (quiet_told (λ e. let f : told.Refused OutOfMemory ≡ told.Refused DeviceFault = sym c.want_memory.ensures.told ∙ e in cc) d.frame.does));
+        does = does_free (subst (λ (w : KeeperView). Does (c.args.conn ∷ []) ⊥ (IsFaultRefusal c.want_memory.result) w v' old new) same
+            (quiet_told (λ e. let f : outcome.Refused OutOfMemory ≡ outcome.Refused DeviceFault = sym c.want_memory.ensures.is ∙ e in cc) d.frame.does));
       };
 }
 
@@ -74,8 +74,8 @@ returns g c = record {
       let v' : KeeperView = view_of c.take_record.new.self in
       let old : DiskView = g.D.Disk.view c.args.disk.now in
       let new : DiskView = g.D.Disk.view c.take_record.new.disk in
-      let is : c.told_of.result ≡ told_of c.take_record.result = c.told_of.ensures.is in
-      subst (λ (t : Told). DoesRequest g.D.Disk.tells now c.args.conn (request.Record c.args.r) t (view_of c.args.self.now) v' old new) (sym is)
-      (subst (λ (w : KeeperView). DoesRequest g.D.Disk.tells now c.args.conn (request.Record c.args.r) (told_of c.take_record.result) w v' old new) (same_waiting (view_of c.args.self.now) c.reserve.new.self.items c.reserve.ensures.items)
+      let is : c.outcome_of.result ≡ outcome_of c.take_record.result = c.outcome_of.ensures.is in
+      subst (λ (t : Outcome). DoesRequest g.D.Disk.tells now c.args.conn (request.Record c.args.r) t (view_of c.args.self.now) v' old new) (sym is)
+      (subst (λ (w : KeeperView). DoesRequest g.D.Disk.tells now c.args.conn (request.Record c.args.r) (outcome_of c.take_record.result) w v' old new) (same_waiting (view_of c.args.self.now) c.reserve.new.self.items c.reserve.ensures.items)
       ((c.take_record.ensures now).done (ap log_of (sym c.requires.state) ∙ sym c.log_of.ensures ∙ c.in-Some.is)));
 }

@@ -18,28 +18,28 @@ use Rattle.lsv_keeper.specs.Syncing.{GoesOnWith}
 use Rattle.lsv_keeper.proofs.Causes.{does_needs}
 use Rattle.lsv_keeper.proofs.keeper.Keeper.reject.Goals as goal
 
-pub tell-requires-clause-timed : goal.tell-requires-clause-timed
-tell-requires-clause-timed g c = (c.requires.timed, reject_timed c.args.state c.requires.asked.0 c.args.report c.requires.asked.1)
+pub add_event-requires-clause-timed : goal.add_event-requires-clause-timed
+add_event-requires-clause-timed g c = (c.requires.timed, reject_timed c.args.state c.requires.asked.0 c.args.report c.requires.asked.1)
 
-pub tell-requires-clause-writes_none : goal.tell-requires-clause-writes_none
-tell-requires-clause-writes_none g c = subst EntersNoLog (sym c.unless_running.ensures) (enters_none c.args.state next.Ends tt)
+pub add_event-requires-clause-writes_none : goal.add_event-requires-clause-writes_none
+add_event-requires-clause-writes_none g c = subst EntersNoLog (sym c.unless_running.ensures) (enters_none c.args.state next.Ends tt)
 
-pub tell-requires-clause-stands : goal.tell-requires-clause-stands
-tell-requires-clause-stands g c told = c.requires.stands told
+pub add_event-requires-clause-stands : goal.add_event-requires-clause-stands
+add_event-requires-clause-stands g c told = c.requires.stands told
 
-pub tell-requires-clause-room : goal.tell-requires-clause-room
-tell-requires-clause-room g c = c.requires.room
+pub add_event-requires-clause-room : goal.add_event-requires-clause-room
+add_event-requires-clause-room g c = c.requires.room
 
 pub returns : goal.returns
 returns g c = record {
   done =
-      let d = c.tell.ensures c.args.now (request.Reject c.args.report) in
-      let v' = view_of c.tell.new.self in
+      let d = c.add_event.ensures c.args.now (request.Reject c.args.report) in
+      let v' = view_of c.add_event.new.self in
       let old = g.D.Disk.view c.args.disk.now in
-      let new = g.D.Disk.view c.tell.new.disk in
+      let new = g.D.Disk.view c.add_event.new.disk in
       record {
         keeps = d.frame.keeps;
-        told = d.told;
+        named = d.named;
         row = λ told m job at e a.
             let v : KeeperView = view_of c.args.self.now in
             let its : c.unless_running.result ≡ unless_running (m.states c.args.conn) next.Ends =

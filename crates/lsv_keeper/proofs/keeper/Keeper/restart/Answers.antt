@@ -8,10 +8,10 @@ use Rattle.lsv_session.specs.declared.connection.ConnState.TheVariants.{Dead}
 use Rattle.lsv_machine.specs.Answers.{Answer}
 use Rattle.lsv_machine.specs.Failures.{AsksFor}
 use Rattle.lsv_machine.specs.Machine.{is_dead}
-use Rattle.lsv_keeper.specs.Rows.{IsTold, Left, RowIs, Tells}
+use Rattle.lsv_keeper.specs.Rows.{NamesLog, Left, RowIs, AnswersWith}
 use Rattle.lsv_keeper.specs.Value.{Owns, sessions_of}
 use Rattle.lsv_keeper.specs.Views.{view_of}
-use Rattle.lsv_keeper.specs.declared.told.Told.TheVariants as told_variants
+use Rattle.lsv_keeper.specs.declared.outcome.Outcome.TheVariants as outcome
 use Rattle.lsv_keeper.proofs.Reopening.{fault_stands}
 use Rattle.lsv_keeper.proofs.RestartRows.{in_use, none_of, refused_row}
 use Rattle.lsv_keeper.proofs.ResumedRows.{resumed_row}
@@ -46,14 +46,14 @@ pub returns-then-is_some : goal.returns-then-is_some
 returns-then-is_some g c = record {
   done = λ now. record {
     keeps = (c.refuse.ensures.done now).frame.keeps;
-    told = subst IsTold (sym c.refuse.ensures.told) tt;
+    named = subst NamesLog (sym c.refuse.ensures.is) tt;
     row = λ told m job at conn asks.
         let a = asks_restart m job c.args.restart (subst (λ (k : ConnId). AsksFor (m.states k) job.body (request.Restart c.args.restart)) (sym conn) asks) in
         let owned : is_some (m.owner c.args.restart.log) ≡ true = ap is_some (at.owner c.args.restart.log ∙ sym c.owner.ensures) ∙ (sym c.is_some.ensures ∙ c.if-is_some.true) in
         (c.refuse.ensures.done now).row told m job at conn (subst (λ (k : ConnId). is_dead (m.states k) ≡ false) conn a.living, refl, in_use (view_of c.args.self.now) now m job c.args.restart c.args.conn conn a owned);
     syncs = λ told m at. of_log c.args.restart _ _ _ _ (of_none _ _ _ _ _ ((c.refuse.ensures.done now).frame.syncs told m at));
     spared = λ told m at. spares_none (view_of c.args.self.now) (view_of c.refuse.new.self) (g.D.Disk.view c.args.disk.now) (g.D.Disk.view c.refuse.new.disk) m at ((c.refuse.ensures.done now).frame.syncs told m at);
-    does = does_free (quiet_told (λ e. let f : told_variants.Refused LogInUse ≡ told_variants.Refused DeviceFault = sym c.refuse.ensures.told ∙ e in cc) (c.refuse.ensures.done now).frame.does);
+    does = does_free (quiet_told (λ e. let f : outcome.Refused LogInUse ≡ outcome.Refused DeviceFault = sym c.refuse.ensures.is ∙ e in cc) (c.refuse.ensures.done now).frame.does);
   };
 }
 
@@ -61,7 +61,7 @@ pub returns-in-Ok : goal.returns-in-Ok
 returns-in-Ok g c = record {
   done = λ now. record {
     keeps = keeps_then (view_of c.args.self.now) (view_of c.resume.new.self) (view_of c.own.new.self) (reserved_keeps (view_of c.args.self.now) (view_of c.resume.new.self) c.resume.ensures.reserved.same) c.resume.ensures.reserved.same.room_is c.own.ensures.keeps (let e = c.own.ensures.owed in omega arith);
-    told = tt;
+    named = tt;
     row = λ told m job at conn asks answers tells.
         let one = c.resume.new.disk in
         let a = asks_restart m job c.args.restart (subst (λ (k : ConnId). AsksFor (m.states k) job.body (request.Restart c.args.restart)) (sym conn) asks) in
@@ -96,7 +96,7 @@ pub returns-in-Err : goal.returns-in-Err
 returns-in-Err g c = record {
   done = λ now. record {
     keeps = keeps_then (view_of c.args.self.now) (view_of c.resume.new.self) (view_of c.enter_state.new.self) (reserved_keeps (view_of c.args.self.now) (view_of c.resume.new.self) c.resume.ensures.reserved.same) c.resume.ensures.reserved.same.room_is c.enter_state.ensures.frame.keeps c.enter_state.ensures.enters.shrinks;
-    told = tt;
+    named = tt;
     row = λ told m job at conn asks answers tells.
         let one = c.resume.new.disk in
         let a = asks_restart m job c.args.restart (subst (λ (k : ConnId). AsksFor (m.states k) job.body (request.Restart c.args.restart)) (sym conn) asks) in
@@ -106,7 +106,7 @@ returns-in-Err g c = record {
         (record { reads_itself = g.met.D.Disk.reads_itself told one; is_now = g.met.D.Disk.is_now told one; only_now = g.met.D.Disk.only_now told one })
         at c.resume.ensures.reserved.same a free c.resume.ensures.resumed.monotone c.in-Err.fault (c.in-Err.ensures.resumed.fault told)
         (λ m1 at1. subst (λ (k : ConnId). Left k Dead (view_of c.resume.new.self) m1 (view_of c.enter_state.new.self) (g.D.Disk.view one) (g.D.Disk.view c.enter_state.new.disk)) (sym conn) (c.enter_state.ensures.left told m1 at1))
-        answers (subst (λ why. Tells job.conn (told_variants.Refused why) answers) c.restart_refusal.ensures tells);
+        answers (subst (λ why. AnswersWith job.conn (outcome.Refused why) answers) c.restart_refusal.ensures tells);
     syncs = λ told m at. of_log c.args.restart _ _ _ _ (
         let v = view_of c.args.self.now in
         let v1 = view_of c.resume.new.self in

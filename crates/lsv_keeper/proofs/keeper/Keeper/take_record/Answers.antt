@@ -10,7 +10,7 @@ use Rattle.lsv_machine.specs.Machine.{log_of}
 use Rattle.lsv_keeper.specs.Rows.{Left, RowGives}
 use Rattle.lsv_keeper.specs.Value.{KeeperView}
 use Rattle.lsv_keeper.specs.Views.{view_of}
-use Rattle.lsv_keeper.specs.declared.told.Told.TheVariants as told
+use Rattle.lsv_keeper.specs.declared.outcome.Outcome.TheVariants as outcome
 use Rattle.lsv_keeper.specs.Syncing.{NoLog}
 use Rattle.lsv_keeper.proofs.ExitEnds.{keeps_from}
 use Rattle.lsv_keeper.proofs.Frames.{Laws}
@@ -34,7 +34,7 @@ release_refused-requires g c = record {
 
 pub returns-in-Staged : goal.returns-in-Staged
 returns-in-Staged g c now =
-    done_if_writing g.D.Disk.tells now c.args.conn c.args.log (request.Record c.args.r) told.Nothing (view_of c.args.self.now) (view_of (record c.args.self.now { logs = c.append.new.self; waiting = c.insert_once.new.numbers })) (g.D.Disk.view c.args.disk.now) (g.D.Disk.view c.args.disk.now)
+    done_if_writing g.D.Disk.tells now c.args.conn c.args.log (request.Record c.args.r) outcome.Nothing (view_of c.args.self.now) (view_of (record c.args.self.now { logs = c.append.new.self; waiting = c.insert_once.new.numbers })) (g.D.Disk.view c.args.disk.now) (g.D.Disk.view c.args.disk.now)
     (staged_keeps (view_of c.args.self.now) c.append.new.self c.insert_once.new.numbers.items c.args.log
     (given_ok c.insert_once.result _ (c.insert_once.ensures.room c.requires.waiting) c.insert_once.ensures.inserted))
     tt
@@ -51,7 +51,7 @@ returns-in-Staged g c now =
 
 pub returns-in-Refused : goal.returns-in-Refused
 returns-in-Refused g c now =
-    done_if_writing g.D.Disk.tells now c.args.conn c.args.log (request.Record c.args.r) (told.Refused c.log_refusal.result) (view_of c.args.self.now) (view_of c.release_refused.new.self) (g.D.Disk.view c.args.disk.now) (g.D.Disk.view c.release_refused.new.disk)
+    done_if_writing g.D.Disk.tells now c.args.conn c.args.log (request.Record c.args.r) (outcome.Refused c.log_refusal.result) (view_of c.args.self.now) (view_of c.release_refused.new.self) (g.D.Disk.view c.args.disk.now) (g.D.Disk.view c.release_refused.new.disk)
     (keeps_from (view_of c.args.self.now) (view_of c.release_refused.new.self) c.append.new.self c.release_refused.ensures.keeps)
     tt
     (λ told_is m job at is state asks. let v : KeeperView = view_of c.args.self.now in
@@ -61,7 +61,7 @@ returns-in-Refused g c now =
     let laws : Laws old = record { reads_itself = g.met.D.Disk.reads_itself told_is c.args.disk.now; is_now = g.met.D.Disk.is_now told_is c.args.disk.now; only_now = g.met.D.Disk.only_now told_is c.args.disk.now } in
     let (was, its, here, no_room, put) = c.in-Refused.ensures in
     let left = c.release_refused.ensures.left told_is v m (its, refused_moved v c.append.new.self c.args.log c.args.r was its c.in-Refused.fault here no_room put) at state in
-    subst (λ (why : Refusal). RowGives v now job (told.Refused why) m v' old new) (sym c.log_refusal.ensures)
+    subst (λ (why : Refusal). RowGives v now job (outcome.Refused why) m v' old new) (sym c.log_refusal.ensures)
     (record_refused v v' now job c.args.log c.args.r was its c.in-Refused.fault m old new laws at
     (subst (λ (k : ConnId). AsksFor (m.states k) job.body (request.Record c.args.r)) (sym is) asks) (subst (λ (k : ConnId). log_of (m.states k) ≡ Some c.args.log) (sym is) state) here no_room
     (subst (λ (k : ConnId). Left k Dead v m v' old new) (sym is) left)))
@@ -74,7 +74,7 @@ returns-in-Refused g c now =
 
 pub returns : goal.returns
 returns g c now =
-    done_if_writing g.D.Disk.tells now c.args.conn c.args.log (request.Record c.args.r) told.Nothing (view_of c.args.self.now) (view_of (record c.args.self.now { logs = c.append.new.self })) (g.D.Disk.view c.args.disk.now) (g.D.Disk.view c.args.disk.now)
+    done_if_writing g.D.Disk.tells now c.args.conn c.args.log (request.Record c.args.r) outcome.Nothing (view_of c.args.self.now) (view_of (record c.args.self.now { logs = c.append.new.self })) (g.D.Disk.view c.args.disk.now) (g.D.Disk.view c.args.disk.now)
     (keeps_same (view_of c.args.self.now) c.append.new.self)
     tt
     (λ told_is m job at is state asks. absurd (written_open (view_of c.args.self.now) (g.D.Disk.view c.args.disk.now) m c.args.conn c.args.log at state c.in-NotOpen.ensures.0))

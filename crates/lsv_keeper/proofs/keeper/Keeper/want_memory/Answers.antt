@@ -22,7 +22,7 @@ enter_state-requires g c = record {
 pub returns-clause-done : goal.returns-clause-done
 returns-clause-done g c now = record {
   frame = c.enter_state.ensures.frame;
-  told = tt;
+  named = tt;
   row = λ told m job at is (alive, stays).
       let old : DiskView = g.D.Disk.view c.args.disk.now in
       let new : DiskView = g.D.Disk.view c.enter_state.new.disk in

@@ -10,8 +10,8 @@ use Rattle.lsv_session.specs.declared.reply.ReplyBody.TheVariants as body
 use Rattle.lsv_session.specs.declared.connection.ConnId.{ConnId}
 use Rattle.lsv_machine.specs.Answers.{Answer, Shut, refusal, reply_of, say}
 use Rattle.lsv_machine.specs.Failures.{WantsMemory}
-use Rattle.lsv_keeper.proofs.told.put_refusal.Goals.{in-Some, in_default}
-use Rattle.lsv_keeper.proofs.told.put_refusal.Goals as goal
+use Rattle.lsv_keeper.proofs.outcome.put_refusal.Goals.{in-Some, in_default}
+use Rattle.lsv_keeper.proofs.outcome.put_refusal.Goals as goal
 
 -- the replies of a refusal by this message
 refused_with : (k : ConnId) (why : Refusal) (message : ServerMessage) (first last : Reply) (said one two : List Reply)

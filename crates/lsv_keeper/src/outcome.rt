@@ -5,7 +5,7 @@ ghost use Rattle.lsv_session.specs.declared.reply.ReplyBody.TheVariants as body;
 ghost use Rattle.lsv_machine.specs.Answers.{CommitPoint, refusal, reply_of, say};
 ghost use Rattle.lsv_machine.specs.Failures.{WantsMemory};
 ghost use Rattle.lsv_keeper.specs.Replies.{Puts, PutsAnswers, room_in};
-ghost use Rattle.lsv_keeper.specs.Rows.{IsTold, Tells, told_of};
+ghost use Rattle.lsv_keeper.specs.Rows.{NamesLog, AnswersWith, outcome_of};
 
 use lsv_base::{Bytes, LogNo, Point};
 use lsv_msg::ServerMessage;
@@ -15,7 +15,7 @@ use std::alloc::Global;
 
 /// What a job is answered.
 #[derive(Debug, Drop)]
-pub enum Told {
+pub enum Outcome {
     Nothing,
     /// A log was opened, of this number and identifier.
     Log(LogNo, Bytes),
@@ -29,15 +29,15 @@ pub enum Told {
     Farewell,
 }
 
-/// What is told where a log took a record, or why it refused it.
+/// The outcome if a log took a record, or why it refused it.
 #[inline(always)]
-pub(crate) fn told_of(refused: Option<Refusal>) -> Told
-    ensures is { result ≡ told_of refused }
-    ensures told { IsTold result }
+pub(crate) fn outcome_of(refused: Option<Refusal>) -> Outcome
+    ensures is { result ≡ outcome_of refused }
+    ensures named { NamesLog result }
 {
     match refused {
-        None => Told::Nothing,
-        Some(why) => Told::Refused(why),
+        None => Outcome::Nothing,
+        Some(why) => Outcome::Refused(why),
     }
 }
 
@@ -94,36 +94,36 @@ fn put_refusal(alloc: Global, out: &mut Vec<Reply>, conn: ConnId, why: Refusal)
 
 /// Puts the replies of an answer at the end, for which there is room. Nearly all jobs are answered nothing.
 #[inline(always)]
-pub(crate) fn put_replies(alloc: Global, out: &mut Vec<Reply>, conn: ConnId, told: Told)
-    requires told { IsTold told }
+pub(crate) fn put_replies(alloc: Global, out: &mut Vec<Reply>, conn: ConnId, outcome: Outcome)
+    requires named { NamesLog outcome }
     requires room { 2 ≤ room_in out.old }
-    ensures { PutsAnswers (Tells conn told) out.old out.new }
+    ensures { PutsAnswers (AnswersWith conn outcome) out.old out.new }
 {
-    if let Told::Nothing = told {
+    if let Outcome::Nothing = outcome {
         return;
     }
-    put_told(alloc, out, conn, told);
+    put_outcome(alloc, out, conn, outcome);
 }
 
 /// Puts the replies of an answer at the end, for which there is room. Where no memory is for the text of a refusal, it is a
 /// refusal for want of memory, or a `Shut` alone.
 #[cold]
 #[inline(never)]
-fn put_told(alloc: Global, out: &mut Vec<Reply>, conn: ConnId, told: Told)
-    requires told { IsTold told }
+fn put_outcome(alloc: Global, out: &mut Vec<Reply>, conn: ConnId, outcome: Outcome)
+    requires named { NamesLog outcome }
     requires room { 2 ≤ room_in out.old }
-    ensures { PutsAnswers (Tells conn told) out.old out.new }
+    ensures { PutsAnswers (AnswersWith conn outcome) out.old out.new }
 {
-    match told {
-        Told::Nothing => {}
-        Told::Log(_, id) => put(out, say(conn, ServerMessage::LogId(id))),
-        Told::Refused(why) => put_refusal(alloc, out, conn, why),
-        Told::Finished(point) => {
+    match outcome {
+        Outcome::Nothing => {}
+        Outcome::Log(_, id) => put(out, say(conn, ServerMessage::LogId(id))),
+        Outcome::Refused(why) => put_refusal(alloc, out, conn, why),
+        Outcome::Finished(point) => {
             put(out, say(conn, ServerMessage::CommitPoint(point.spec())));
             put(out, shut(conn, false));
         }
-        Told::Shut => put(out, shut(conn, false)),
-        Told::Farewell => put(out, shut(conn, true)),
+        Outcome::Shut => put(out, shut(conn, false)),
+        Outcome::Farewell => put(out, shut(conn, true)),
     }
 }
 

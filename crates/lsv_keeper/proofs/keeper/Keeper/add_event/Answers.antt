@@ -13,7 +13,7 @@ use Rattle.lsv_keeper.proofs.Syncing.{followed, line_quiet}
 use Rattle.lsv_keeper.proofs.Causes.{does_as, refused_is, then_quiet}
 use Rattle.std.specs.Prelude.{Result, Err}
 use Rattle.lsv_request.specs.declared.refusal.Refusal.{Refusal}
-use Rattle.lsv_keeper.proofs.keeper.Keeper.tell.Goals as goal
+use Rattle.lsv_keeper.proofs.keeper.Keeper.add_event.Goals as goal
 
 abbrev err : {T : Type 0} → Refusal → Result T Refusal
 err why = Err why
@@ -37,7 +37,7 @@ returns-in-Err g c now what = record {
         followed NoLog v v1 (view_of c.enter_state.new.self) d0 d1 (g.D.Disk.view c.enter_state.new.disk) line (c.enter_state.ensures.frame.syncs told m (c.in-Err.ensures.refused told m at).1);
     does = then_quiet (λ e. ap (λ (w : Refusal). err w) (refused_is c.in-Err.why e)) c.in-Err.ensures.frame.does c.enter_state.ensures.frame.does;
   };
-  told = tt;
+  named = tt;
   row = λ told m job at e (a, is).
       let v : KeeperView = view_of c.args.self.now in
       let d0 = c.args.disk.now in
@@ -62,7 +62,7 @@ returns-in-Stays g c now what = record {
         line;
     does = does_as (λ e. absurd (cc)) c.in_default.ensures.frame.does;
   };
-  told = tt;
+  named = tt;
   row = λ told m job at e (a, is).
       let v : KeeperView = view_of c.args.self.now in
       let d0 = c.args.disk.now in
@@ -95,7 +95,7 @@ returns-in-Enters g c now what = record {
         followed NoLog v v1 (view_of c.enter_state-in-Enters.new.self) d0 d1 (g.D.Disk.view c.enter_state-in-Enters.new.disk) line (c.enter_state-in-Enters.ensures.frame.syncs told (adds_line c.args.conn (line_of v.kind c.args.event.now) m) (c.in_default.ensures.added told m at).1);
     does = then_quiet (λ e. absurd (cc)) c.in_default.ensures.frame.does c.enter_state-in-Enters.ensures.frame.does;
   };
-  told = tt;
+  named = tt;
   row = λ told m job at e (a, is).
       let v : KeeperView = view_of c.args.self.now in
       let d0 = c.args.disk.now in
@@ -126,7 +126,7 @@ returns-in-Ends g c now what = record {
         followed NoLog v v1 (view_of c.enter_state-in-Ends.new.self) d0 d1 (g.D.Disk.view c.enter_state-in-Ends.new.disk) line (c.enter_state-in-Ends.ensures.frame.syncs told (adds_line c.args.conn (line_of v.kind c.args.event.now) m) (c.in_default.ensures.added told m at).1);
     does = then_quiet (λ e. absurd (cc)) c.in_default.ensures.frame.does c.enter_state-in-Ends.ensures.frame.does;
   };
-  told = tt;
+  named = tt;
   row = λ told m job at e (a, is).
       let v : KeeperView = view_of c.args.self.now in
       let d0 = c.args.disk.now in
