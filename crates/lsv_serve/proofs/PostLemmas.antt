@@ -1,4 +1,4 @@
--- Posts of ports, and one more; and the ports of posts.
+-- Endpoints of ports, and one more; and the ports of endpoints.
 use Rattle.std.proofs.Common.{◌≡◌, ◌≢◌, ◌<◌, ◌+◌, ◌++◌, ◌∷◌, [], List, ℕ, Bool, true, false, Some, inl, inr, map, length, refl, sym, ap, subst, ◌∙◌, arith, append_assoc, append-nil}
 use Rattle.std.specs.Prelude.{◌==◌, drop, slice_get, take}
 use Rattle.std.proofs.Math.ListN.{get_or}

@@ -1,4 +1,4 @@
--- A run of `serve`: its ports as posts, its bays, its links, its end, and a run that did nothing.
+-- A run of `serve`: its ports as endpoints, its bays, its links, its end, and a run that did nothing.
 use Rattle.std.proofs.Common.{◌≡◌, ◌≤◌, ◌<◌, ◌+◌, ◌∷◌, inl, inr, [], List, ℕ, Bool, zero, suc, Option, Some, None, map, length, true, refl, sym, ap, subst, ◌∙◌, append-nil, arith}
 use Rattle.std.specs.List.{Contains, insert, remove}
 use Rattle.std.specs.Prelude.{option_map, slice_get}
@@ -17,6 +17,8 @@ use Rattle.lsv_keeper.specs.declared.fault.StoreFault.{StoreFault}
 use Rattle.lsv_lane.specs.Store.{IsFresh, lane_settings}
 use Rattle.lsv_lane.proofs.Conforming.{keeps_less}
 use Rattle.lsv_session.specs.declared.job.Job.{Job}
+use Rattle.lsv_lanes.specs.Jobs.{ArePut, CameTo}
+use Rattle.lsv_lanes.proofs.Jobs.{put_jobs, served_jobs}
 use Rattle.lsv_links.specs.Links.{PutsPrefixes, ServesPort, ServesPorts}
 use Rattle.lsv_links.specs.Views.{PortFailed, PortView}
 use Rattle.lsv_port.specs.Ledger.{Listening, WasAsked}
@@ -27,17 +29,18 @@ use Rattle.lsv_reactor.specs.declared.endpoint.Endpoint
 use Rattle.lsv_reactor.specs.declared.rounds.PortsEnd.{PortsEnd}
 use Rattle.lsv_reactor.specs.declared.rounds.PortsEnd.TheVariants.{Stopped, Failed}
 use Rattle.lsv_threads.specs.Served.{ServesLanes}
-use Rattle.lsv_service.specs.Lanes.{AreFreshBays, BayView, IsUnopened, KeepPlaces, LeavesLinks, RunsLanes, RunsServer}
+use Rattle.lsv_service.specs.Lanes.{AreFreshBays, BayView, IsUnopened, KeepPlaces, LeavesLinks, OpensSome, RunsLanes, RunsServer}
 use Rattle.lsv_service.specs.Runs.{IsUp, ListenAt, ListenFailed, RunsStore}
 use Rattle.lsv_service.proofs.CompleteLemmas.{completes_lanes}
-use Rattle.lsv_service.proofs.Keeping.{keep_apart}
+use Rattle.lsv_service.proofs.Keeping.{came_none, keep_apart}
+use Rattle.lsv_service.proofs.Places.{there_at}
 use Rattle.lsv_service.specs.declared.run.End.{End}
 use Rattle.lsv_service.specs.declared.run.End.TheVariants as ends
 use Rattle.lsv_serve.specs.declared.status.Status.{Status}
 use Rattle.lsv_serve.specs.Causes.{HasPlaces, HavePlaces, HavePlacesAt, LaneMayServe, MayServeLanes}
 use Rattle.lsv_serve.specs.InnerServe.{nothing, port_at}
 use Rattle.lsv_serve.specs.Program.{lines_in, listening_by, prompts_of, set_by}
-use Rattle.lsv_serve.specs.Serve.{ArePlaced, ArePortsEnded, CompletesLinks, EndsPorts, HasLaneCause, HasServeCause, KeepLanesApart, RunsAs, RunsServe, RunsTo, ServerWorld, ServesAs, kept_by, machines_of, told}
+use Rattle.lsv_serve.specs.Serve.{ArePlaced, ArePortsEnded, CompletesLinks, EndsPorts, HasLaneCause, HasServeCause, KeepLanesApart, RunsAs, RunsServe, RunsTo, ServerWorld, ServesAs, ServesPart, kept_by, machines_of, told}
 use Rattle.lsv_serve.proofs.ProgramLemmas.{Unread}
 use Rattle.lsv_service.proofs.Idle.{keeps_nothing}
 use Rattle.lsv_serve.proofs.StartLemmas.{alone_same, alone_trans, fit_kept, fits_after, fresh_after, store_cause_before}
@@ -111,26 +114,26 @@ beside (suc l) (suc m) = elim (beside l m) [ lower h ↦ lower (omega (arith, h)
 
 -- ---- The links
 
--- what posts were asked, their ports were asked
+-- what endpoints were asked, their ports were asked
 ports_listen : {T : Type 0} (view : T → PortView) (asked : Listening) (posts posts' : List T) → ListenAt view asked posts posts' → ListenAt (λ port. port) asked (map view posts) (map view posts')
 ports_listen view asked posts posts' at w before after e f =
     let t = through view posts w before e in
     let u = through view posts' w after f in
     subst (λ (p : PortView). WasAsked asked (ListenFailed p after) p.ledger after.ledger) t.is (subst (λ (p : PortView). WasAsked asked (ListenFailed (view t.x) p) (view t.x).ledger p.ledger) u.is (at w t.x u.x t.at u.at))
 
--- posts that served ports, from a world to another. starts: from where they began, which are the ports of the first
+-- endpoints that served ports, from a world to another. starts: from where they began, which are the ports of the first
 module _ {T X : Type 0} (words : Endpoint.Ghosts T) (starts : ℕ → words.Start) (lanes : ℕ) (old new : ServerWorld X) (posts : List T) (turns : ℕ → List LaneTurn) (tells : old.ports_tell → words.tells) (begun : (w : ℕ) → words.begun (starts w) ≡ port_at old.ports w)
     (same : length posts ≡ length old.ports) (is : map words.view posts ≡ new.ports) where
   abbrev Served : ℕ → PortView → PortView → Type 0
   Served w before after = ServesPort (λ l. old.disk_tells) lanes w (λ l. jobs_in (turns l)) (λ l. replies_in (turns l)) before after
 
   abbrev Put : ℕ → PortView → PortView → Type 0
-  Put w before after = PutsPrefixes w (λ l. jobs_in (turns l)) (λ l. replies_in (turns l)) before after
+  Put w before after = PutsPrefixes lanes w (λ l. jobs_in (turns l)) (λ l. replies_in (turns l)) before after
 
   counted : length new.ports ≡ length old.ports
   counted = ap length (sym is) ∙ length-map posts words.view ∙ same
 
-  -- what is said of each post and of where it began, is said of the ports
+  -- what is said of each endpoint and of where it began, is said of the ports
   each_port : (Holds : ℕ → PortView → PortView → Type 0) → ((i : ℕ) (post : T) → slice_get posts i ≡ Some post → Holds i (words.begun (starts i)) (words.view post))
       → (w : ℕ) (before after : PortView) → slice_get old.ports w ≡ Some before → slice_get new.ports w ≡ Some after → Holds w before after
   each_port Holds each w before after e f =
@@ -154,7 +157,7 @@ module _ {T X : Type 0} (words : Endpoint.Ghosts T) (starts : ℕ → words.Star
   served_ports : (end : PortsEnd) → ServesLanes words old.disk_tells lanes starts posts turns end → old.ports_tell → ServesPorts (λ l. old.disk_tells) lanes turns old.ports new.ports
   served_ports end s told = record { count = counted; each = each_port Served (s.each (tells told)); known = of_ports s.within }
 
-  -- how they leave the ports. before: the posts as they were
+  -- how they leave the ports. before: the endpoints as they were
   module _ (asked : Listening) (before : List T) (was : map words.view before ≡ old.ports) where
     listened : ListenAt words.view asked before posts → ListenAt (λ port. port) asked old.ports new.ports
     listened at =
@@ -258,7 +261,7 @@ idle_run set texts lanes asked old ports only_now same = record {
 
 -- ---- Its end
 
--- what lsv_service says of a run, is said of the ports and the bays. before, posts: the ports as posts, before the run and after it
+-- what lsv_service says of a run, is said of the ports and the bays. before, posts: the ports as endpoints, before the run and after it
 pub runs_to : {T X : Type 0} {words : Endpoint.Ghosts T} {starts : ℕ → words.Start} (set : ℕ → Settings) (texts : List (List ℕ)) (lanes : ℕ) (asked : Listening) (old new : ServerWorld X) (before posts : List T) (end : End)
     → RunsServer words old.view old.disk_tells old.tape_tells set texts lanes starts asked before posts old.bays new.bays end → (old.ports_tell → words.tells) → ((w : ℕ) → words.begun (starts w) ≡ port_at old.ports w)
     → map words.view before ≡ old.ports → map words.view posts ≡ new.ports → RunsTo set texts lanes asked old new end
@@ -313,9 +316,31 @@ module _ {X : Type 0} (set : ℕ → Settings) (texts : List (List ℕ)) (lanes 
   runs_told (ends.Store fault) r = r
   runs_told ends.NoMem r = r
 
-pub apart_lanes : {X : Type 0} (kind : Kind) (log_exit : Bool) (texts : List (List ℕ)) (lanes : ℕ) (asked : Listening) (old new : ServerWorld X) → KeepLanesApart (λ l. lane_settings l lanes kind log_exit) texts lanes asked old new
-apart_lanes kind log_exit texts lanes asked old new ports run told ports_told =
-    keep_apart old.disk_tells old.tape_tells told old.view kind log_exit texts lanes run.placed new.bays ports run.turns run.stores old.ports new.ports (run.links.served ports_told)
+-- the jobs of each lane came to it, by how the run ended
+module _ {X : Type 0} (lanes : ℕ) (asked : Listening) (old new : ServerWorld X) (turns : ℕ → List LaneTurn) (ports_told : old.ports_tell) where
+  of_part : ServesPart lanes old new turns → ArePut lanes (length old.ports) turns
+  of_part s = record {
+    each = λ w less.
+        let (before, was) = there_at old.ports w less in
+        let (after, is) = there_at new.ports w (let count = s.count in omega (arith, less, count)) in
+        (before, after, s.each w before after was is);
+    known = s.known;
+  }
+
+  came_ports : (end : End) (opened : ℕ) → OpensSome end lanes opened → (opened < lanes → (l : ℕ) → turns l ≡ []) → EndsPorts lanes asked old new turns end → (l : ℕ) → CameTo l lanes (jobs_in (turns l))
+  came_ports (ends.Over ports) opened some idle links = served_jobs (λ l. old.disk_tells) lanes turns old.ports new.ports (links.served ports_told)
+  came_ports (ends.Store fault) opened some idle same = came_none lanes turns (idle some)
+  came_ports ends.NoMem opened some idle (inl never) = came_none lanes turns never.none
+  came_ports ends.NoMem opened some idle (inr broke) = put_jobs lanes (length old.ports) turns (of_part (broke.served ports_told))
+
+-- what is known of the disks of a world: a crash now leaves nothing but what it may leave now
+abbrev pub OnlyNow : {X : Type 0} → ServerWorld X → Type 0
+OnlyNow {X} old = old.disk_tells → (bay : X) (image : Image) → (old.view bay).disk.crash_images_at (old.view bay).disk.moment image → IsCrashImage (old.view bay).disk image
+
+pub apart_lanes : {X : Type 0} (kind : Kind) (log_exit : Bool) (texts : List (List ℕ)) (lanes : ℕ) (asked : Listening) (old new : ServerWorld X) → OnlyNow old → KeepLanesApart (λ l. lane_settings l lanes kind log_exit) texts lanes asked old new
+apart_lanes kind log_exit texts lanes asked old new only_now end run told ports_told =
+    keep_apart old.disk_tells old.tape_tells told old.view (only_now told) kind log_exit texts lanes run.placed new.bays end run.turns run.stores
+    (came_ports lanes asked old new run.turns ports_told end run.stores.opened run.stores.some run.stores.idle run.links)
 
 cause_told : {X : Type 0} (lines : List Placed) (faults faults' lanes : ℕ) (old new : ServerWorld X) (end : End) → first_refused lines ≡ None → ((fault : StoreFault) → end ≡ ends.Store fault → HasLaneCause lanes old new fault) → HasServeCause lines faults faults' lanes old new (told end)
 cause_told lines faults faults' lanes old new (ends.Over Stopped) none c = none
@@ -389,7 +414,7 @@ serves_unread {X} lanes stop_after found faults faults' old status only_now (inl
   runs = idle_run (machines_of (set_by found) lanes) (prompts_of (set_by found)) lanes (listening_by (set_by found) stop_after) old old.ports only_now refl;
   cause = tt;
   complete = complete_links (machines_of (set_by found) lanes) (prompts_of (set_by found)) lanes (listening_by (set_by found) stop_after) old old;
-  apart = apart_lanes (set_by found).format (set_by found).log_exit (prompts_of (set_by found)) lanes (listening_by (set_by found) stop_after) old old;
+  apart = apart_lanes (set_by found).format (set_by found).log_exit (prompts_of (set_by found)) lanes (listening_by (set_by found) stop_after) old old only_now;
   places = λ tells l before after was is. inr (ap (λ (b : X). (old.view b).disk.places) (same_one old.bays l after before is was));
   again = λ tells. may_serve_same old.view lanes old.bays;
 })
@@ -397,7 +422,7 @@ serves_unread {X} lanes stop_after found faults faults' old status only_now (inr
   runs = record { bays = refl; ports = refl };
   cause = c;
   complete = complete_links (machines_of (set_by found) lanes) (prompts_of (set_by found)) lanes (listening_by (set_by found) stop_after) old old;
-  apart = apart_lanes (set_by found).format (set_by found).log_exit (prompts_of (set_by found)) lanes (listening_by (set_by found) stop_after) old old;
+  apart = apart_lanes (set_by found).format (set_by found).log_exit (prompts_of (set_by found)) lanes (listening_by (set_by found) stop_after) old old only_now;
   places = λ tells l before after was is. ap (λ (b : X). (old.view b).disk.places) (same_one old.bays l after before is was);
   again = λ tells. may_serve_same old.view lanes old.bays;
 })

@@ -1,4 +1,4 @@
--- For proofs of a run of `serve`: ports as posts.
+-- For proofs of a run of `serve`: ports as endpoints.
 use Rattle.std.specs.Prelude.{◌≡◌, ◌⊎◌, ◌++◌, ◌∷◌, ℕ, List, [], Some, false, length, map, slice_get}
 use Rattle.std.proofs.Math.ListN.{get_or}
 use Rattle.lsv_port.specs.Port.{fresh_link}
@@ -14,7 +14,7 @@ nothing = record { state = record { opened = []; link = λ l. fresh_link (λ m. 
 abbrev pub port_at : List PortView → ℕ → PortView
 port_at ports i = get_or ports i nothing
 
--- posts of these ports, each numbered by its place, whose jobs go to this many lanes, that have done nothing
+-- endpoints of these ports, each numbered by its place, whose jobs go to this many lanes, that have done nothing
 pub record ArePosts {T : Type 0} (number lanes : T → ℕ) (made_by : PortView → T → (ℕ → List Job) → List Reply → Type 0) (view : T → PortView) (many : ℕ) (ports : List PortView) (posts : List T) : Type 0 where
   pub count : length posts ≡ length ports
   pub numbered : (i : ℕ) (post : T) → slice_get posts i ≡ Some post → number post ≡ i
@@ -22,7 +22,7 @@ pub record ArePosts {T : Type 0} (number lanes : T → ℕ) (made_by : PortView 
   pub made : (i : ℕ) (post : T) → slice_get posts i ≡ Some post → made_by (port_at ports i) post (λ lane. []) []
   pub views : map view posts ≡ ports
 
--- a port became a post of this number, whose jobs go to this many lanes, the last of them; none was left before
+-- a port became an endpoint of this number, whose jobs go to this many lanes, the last of them; none was left before
 pub record BecomesPost {T P : Type 0} (number lanes : T → ℕ) (made_by : PortView → T → (ℕ → List Job) → List Reply → Type 0) (view : T → PortView) (port_view : P → PortView) (n many : ℕ) (port : P) (posts posts' : List T) (left left' : List P) : Type 0 where
   pub post : T
   pub last : posts' ≡ posts ++ post ∷ []

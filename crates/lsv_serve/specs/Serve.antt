@@ -80,17 +80,18 @@ pub record ServesLinks {X : Type 0} (lanes : ℕ) (asked : Listening) (old new :
   pub served : old.ports_tell → ServesPorts (λ l. old.disk_tells) lanes turns old.ports new.ports
   pub ended : ArePortsEnded old.ports_tell old.ports new.ports end
 
--- the links of all ports were served by these turns up to some point: each job came of what was read, and what was put are prefixes of the answers
-pub record ServesPart {X : Type 0} (old new : ServerWorld X) (turns : ℕ → List LaneTurn) : Type 0 where
+-- The links of all ports were served by these turns up to some point. Each job came of what was read, and went to its connection's
+-- lane. What was put are prefixes of the answers.
+pub record ServesPart {X : Type 0} (lanes : ℕ) (old new : ServerWorld X) (turns : ℕ → List LaneTurn) : Type 0 where
   pub count : length new.ports ≡ length old.ports
   pub each : (w : ℕ) (before after : PortView) → slice_get old.ports w ≡ Some before → slice_get new.ports w ≡ Some after
-      → PutsPrefixes w (λ l. jobs_in (turns l)) (λ l. replies_in (turns l)) before after
+      → PutsPrefixes lanes w (λ l. jobs_in (turns l)) (λ l. replies_in (turns l)) before after
   pub known : (l : ℕ) (job : Job) → Contains (jobs_in (turns l)) job → job.conn.worker < length old.ports
 
 -- the ports listened, and then memory ran out
-pub record BreaksLinks {X : Type 0} (asked : Listening) (old new : ServerWorld X) (turns : ℕ → List LaneTurn) : Type 0 where
+pub record BreaksLinks {X : Type 0} (lanes : ℕ) (asked : Listening) (old new : ServerWorld X) (turns : ℕ → List LaneTurn) : Type 0 where
   pub listens : PortsListen asked old new
-  pub served : old.ports_tell → ServesPart old new turns
+  pub served : old.ports_tell → ServesPart lanes old new turns
 
 -- memory ran out before the ports listened: no turn was made, and the ports are as they were
 pub record NeverListens {X : Type 0} (old new : ServerWorld X) (turns : ℕ → List LaneTurn) : Type 0 where
@@ -101,7 +102,7 @@ pub record NeverListens {X : Type 0} (old new : ServerWorld X) (turns : ℕ → 
 abbrev pub EndsPorts : {X : Type 0} (lanes : ℕ) → Listening → (old new : ServerWorld X) → (ℕ → List LaneTurn) → End → Type 0
 EndsPorts lanes asked old new turns (ends.Over ports) = ServesLinks lanes asked old new turns ports
 EndsPorts lanes asked old new turns (ends.Store fault) = new.ports ≡ old.ports
-EndsPorts lanes asked old new turns ends.NoMem = NeverListens old new turns ⊎ BreaksLinks asked old new turns
+EndsPorts lanes asked old new turns ends.NoMem = NeverListens old new turns ⊎ BreaksLinks lanes asked old new turns
 
 -- these bays are those, but that each disk may have other places: `root` changes nothing else
 pub record ArePlaced {X : Type 0} (view : X → BayView) (disk_tells : Type 0) (olds placed : List X) : Type 0 where
@@ -166,9 +167,9 @@ CompletesLinks set texts lanes asked old new =
     (ports : PortsEnd) (run : RunsTo set texts lanes asked old new (ends.Over ports)) (told : old.disk_tells) (ports_told : old.ports_tell) (worker : ℕ) (before after : PortView) (was : slice_get old.ports worker ≡ Some before) (is : slice_get new.ports worker ≡ Some after)
     → CompletesLanes old.view set texts lanes run.stores.opened run.placed new.bays run.turns (kept_by run told) worker before after ((run.links.served ports_told).each worker before after was is)
 
--- over disks and ports that tell, the lanes of a run keep apart that came to its end of its own
+-- over disks and ports that tell the lanes of a run keep apart, however it ended
 abbrev pub KeepLanesApart : {X : Type 0} → (ℕ → Settings) → List (List ℕ) → (lanes : ℕ) → Listening → (old new : ServerWorld X) → Type 0
-KeepLanesApart set texts lanes asked old new = (ports : PortsEnd) (run : RunsTo set texts lanes asked old new (ends.Over ports)) → old.disk_tells → old.ports_tell → KeepApart old.view lanes run.placed new.bays run.turns
+KeepLanesApart set texts lanes asked old new = (end : End) (run : RunsTo set texts lanes asked old new end) → old.disk_tells → old.ports_tell → KeepApart old.view lanes run.placed new.bays run.turns
 
 -- how the program tells the end of a run
 abbrev pub told : End → Status

@@ -1,4 +1,4 @@
-//! The ports of a server as posts.
+//! The ports of a server as endpoints.
 
 ghost use Rattle.std.specs.Prelude.{◌≡◌, ◌≤◌, ◌<◌, ◌+◌, ◌++◌, ◌∷◌, [], ℕ, Some, map, length, slice_get, vec_capacity, vec_len, IfErr, IfOk};
 ghost use Rattle.lsv_endpoint.specs.Ports.{IsUnopened, view_by};
@@ -20,7 +20,8 @@ fn put<T: Drop>(values: &mut Vec<T>, value: T)
     };
 }
 
-/// Makes a post of this number of a port, whose jobs go to this many lanes. If memory runs out for it, or ran out for one before, the port is left.
+/// Makes an endpoint of this number of a port, whose jobs go to this many lanes. If memory runs out for it, or ran out for one
+/// before, the port is left.
 fn seat<P: Port + Drop>(
     alloc: Global,
     number: u32,
@@ -59,7 +60,8 @@ fn joined<P: Port + Drop>(front: Vec<P>, back: Vec<P>) -> Vec<P>
     ports
 }
 
-/// A post for each port, in their order, whose jobs go to this many lanes; and the room that was given. Out of memory the ports are given back, in their order.
+/// An endpoint for each port, in their order, whose jobs go to this many lanes; and the room that was given. Out of memory the
+/// ports are given back, in their order.
 pub(crate) fn posts_of<P: Port + Drop>(
     alloc: Global,
     lanes: u32,
@@ -92,7 +94,7 @@ pub(crate) fn posts_of<P: Port + Drop>(
     Err(joined(ports_of(posts, room), left))
 }
 
-/// The ports of these posts, in their order, in a vector that has room for them.
+/// The ports of these endpoints, in their order, in a vector that has room for them.
 pub(crate) fn ports_of<P: Port + Drop>(posts: Vec<WorkerEndpoint<P>>, room: Vec<P>) -> Vec<P>
     requires empty { vec_len room ≡ 0 }
     requires room { length posts.items ≤ vec_capacity room }

@@ -24,7 +24,7 @@ returns-in-Err-clause-runs g c =
     let old : ServerWorld (Bay g.row.D.Denot g.row.C.Denot g.row.G.Denot) = server_of g.P.Port g.D.Disk g.G.Tape c.args.out.ports.items bays in
     subst (λ (b : List (Bay g.row.D.Denot g.row.C.Denot g.row.G.Denot)). RunsAs set c.args.options.prompts c.args.lanes asked old (server_of g.P.Port g.D.Disk g.G.Tape c.args.out.ports.items b) status.NoMem) (sym back)
     (runs_as set c.args.options.prompts c.args.lanes asked old old ends.NoMem status.NoMem refl (idle_run set c.args.options.prompts c.args.lanes asked old old.ports (λ told bay image is. disk.only_now told bay.disk image is) refl)
-    (apart_lanes c.args.formatter.kind c.args.options.log_exit c.args.options.prompts c.args.lanes asked old old))
+    (apart_lanes c.args.formatter.kind c.args.options.log_exit c.args.options.prompts c.args.lanes asked old old (λ told bay image is. disk.only_now told bay.disk image is)))
 
 pub returns-in-Err-clause-again : goal.returns-in-Err-clause-again
 returns-in-Err-clause-again g c = λ told.
@@ -45,6 +45,7 @@ serve_bays-ports-requires-clause-fresh g c = λ lifetimes outlive told.
 
 pub returns-clause-runs : goal.returns-clause-runs
 returns-clause-runs g c =
+    let disk = g.met.D.Disk g.world.𝓛 g.world.𝓜 g.world.𝓡 ((λ s x. x), (λ x. x), (λ x. x), λ x. x) in
     let front : Bay g.row.D.Denot g.row.C.Denot g.row.G.Denot = record { disk = c.args.out.disk; clock = c.args.out.clock; tape = c.args.out.tape } in
     let bays = bays_of c.args.out.disk c.args.out.clock c.args.out.tape c.args.out.others.items in
     let made : c.insert.new.self.items ≡ bays = c.in_default.ensures.items ∙ inserted c.args.out.others.items front in
@@ -58,7 +59,7 @@ returns-clause-runs g c =
     let some : 1 ≤ length left = let n = run.stores.count ∙ run.are_placed.count in omega (arith, n) in
     let back : bays_of c.remove-disk.result.disk c.remove-disk.result.clock c.remove-disk.result.tape c.remove-disk.new.self.items ≡ left = together left c.remove-disk.new.self.items c.remove-disk.result some c.remove-disk.ensures.value c.remove-disk.ensures.items in
     subst (λ (b : List (Bay g.row.D.Denot g.row.C.Denot g.row.G.Denot)). RunsAs set c.args.options.prompts c.args.lanes asked old (server_of g.P.Port g.D.Disk g.G.Tape c.serve_bays-ports.result.0.items b) c.told.result) (sym back)
-    (runs_as set c.args.options.prompts c.args.lanes asked old new c.serve_bays-ports.result.2 c.told.result c.told.ensures run (apart_lanes c.args.formatter.kind c.args.options.log_exit c.args.options.prompts c.args.lanes asked old new))
+    (runs_as set c.args.options.prompts c.args.lanes asked old new c.serve_bays-ports.result.2 c.told.result c.told.ensures run (apart_lanes c.args.formatter.kind c.args.options.log_exit c.args.options.prompts c.args.lanes asked old new (λ told bay image is. disk.only_now told bay.disk image is)))
 
 pub returns-clause-places : goal.returns-clause-places
 returns-clause-places g c = λ told.
