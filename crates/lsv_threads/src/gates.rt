@@ -6,6 +6,7 @@ ghost use Rattle.lsv_queue.specs.Settled.{puts_at};
 ghost use Rattle.lsv_threads.specs.Gates.{AreOpen, KeepsGates, count_of, gates_same, gates_through, gates_lanes};
 
 use crate::Parkings;
+use crate::purse::Purse;
 use lsv_port::Bell;
 use lsv_queue::{InPass, Queue};
 use lsv_session::{Full, Job};
@@ -26,6 +27,7 @@ pub struct Gates<'a, R, B> {
     pub(crate) number: u32,
     refused: [u64; 8],
     touched: [bool; 8],
+    purse: Purse,
     ghost are_of: { AreOpen inboxes.now passes.items },
     ghost few: { length passes.items ≤ 8 },
 }
@@ -52,6 +54,7 @@ impl<'a, R, B> Gates<'a, R, B> {
             number,
             refused: [0; MOST_LANES],
             touched: [false; MOST_LANES],
+            purse: Purse::new(),
         }
     }
 
@@ -65,6 +68,14 @@ impl<'a, R, B> Gates<'a, R, B> {
             ..
         } = self;
         (passes, touched)
+    }
+
+    /// Gives back what was counted and isn't used.
+    pub fn settle(&self)
+    where
+        B: Bell,
+    {
+        self.purse.settle(self.parkings);
     }
 
     /// A put to this lane was refused.
@@ -114,7 +125,7 @@ impl<'a, R: Wait, B: Bell> Inbox for Gates<'a, R, B> {
         }
         let place = lane as usize;
         let bytes = job_size(&job);
-        if !self.parkings.load(place, bytes) {
+        if !self.purse.pay(self.parkings, self.number, place, bytes) {
             self.refuse(lane);
             return Err((job, Full));
         }
@@ -124,7 +135,7 @@ impl<'a, R: Wait, B: Bell> Inbox for Gates<'a, R, B> {
                 Ok(())
             }
             Err(e) => {
-                self.parkings.unload(place, bytes);
+                self.purse.refund(place, bytes);
                 self.refuse(lane);
                 Err(e)
             }

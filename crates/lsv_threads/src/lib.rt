@@ -11,6 +11,7 @@ mod lane_side;
 mod lane_thread;
 mod meanwhile;
 mod parkings;
+mod purse;
 mod rotation;
 mod running;
 mod serve;

@@ -27,6 +27,8 @@ pub struct Parkings<B> {
     pub weights: Vec<AtomicU64>,
     /// One for each worker, in their order.
     pub workers: Vec<Parker>,
+    /// For each worker, in their order: 1 if it may wait in its port's turn, else 0.
+    pub waiting: Vec<AtomicU64>,
     /// The bells of the workers' ports, in the workers' order. The last may be missing.
     pub bells: Vec<B>,
 }
@@ -44,13 +46,16 @@ impl<B: Bell> Parkings<B> {
             weights.push(AtomicU64::new(0))?;
         }
         let mut worker_parkers = Vec::new(alloc);
+        let mut waiting = Vec::new(alloc);
         for _ in 0..workers {
             worker_parkers.push(Parker::new())?;
+            waiting.push(AtomicU64::new(0))?;
         }
         Ok(Parkings {
             lanes: lane_parkers,
             weights,
             workers: worker_parkers,
+            waiting,
             bells,
         })
     }
@@ -67,8 +72,33 @@ impl<B: Bell> Parkings<B> {
         if let Some(parker) = self.workers.as_slice().get(worker) {
             parker.unpark();
         }
+        if self.stops_waiting(worker) {
+            self.ring(worker);
+        }
+    }
+
+    /// Rings the bell of a worker's port: its turn that waits now, or else the next one, answers at once.
+    pub fn ring(&self, worker: usize) {
         if let Some(bell) = self.bells.as_slice().get(worker) {
             bell.ring();
+        }
+    }
+
+    /// Notes whether a worker may wait in its port's turn. A worker that says so before it looks for replies misses none: one that
+    /// is put after the look rings.
+    pub fn note_waiting(&self, worker: usize, waits: bool) {
+        if let Some(waiting) = self.waiting.as_slice().get(worker) {
+            waiting.store(u64::from(waits), Ordering::SeqCst);
+        }
+    }
+
+    /// Whether a worker may wait in its port's turn. Then it is noted that it was woken, so that one of several rings.
+    fn stops_waiting(&self, worker: usize) -> bool {
+        match self.waiting.as_slice().get(worker) {
+            Some(waiting) => {
+                waiting.load(Ordering::SeqCst) == 1 && waiting.swap(0, Ordering::SeqCst) == 1
+            }
+            None => true,
         }
     }
 

@@ -43,6 +43,7 @@ impl<T: Endpoint> WorkerSide<T> {
         let put = mem::replace(&mut self.put, Vec::new(alloc));
         let mut gates = Gates::new(rt, inboxes, parkings, put, self.desk.number);
         self.desk.serve(&mut gates, waits, heard);
+        gates.settle();
         let (put, touched) = gates.into_passes();
         self.put = put;
         for lane in 0..MOST_LANES {
@@ -123,8 +124,12 @@ impl<T: Endpoint> WorkerSide<T> {
         ensures from { (first : WorkerSide T) → IsFrom ⟦<T as Endpoint>⟧ inboxes.now first self.old → IsFrom ⟦<T as Endpoint>⟧ inboxes.now first self.new }
         ensures queue { self.new.desk.taken.queue ≡ self.old.desk.taken.queue }
     {
+        let number = self.desk.number as usize;
+        parkings.note_waiting(number, true);
         let heard = self.desk.hear(rt, outbox);
+        parkings.note_waiting(number, !heard);
         self.go_on(rt, alloc, inboxes, parkings, waits, heard);
+        parkings.note_waiting(number, false);
         heard
     }
 

@@ -158,7 +158,7 @@ impl<T: Endpoint> WorkerThread<T> {
                 }
                 let number = back.side.desk.number as usize;
                 // A port's turn that was rung answers at once, so the caller's thread doesn't wait in it.
-                parkings.wake_worker(number);
+                parkings.ring(number);
                 back.side
                     .step(rt, alloc, inboxes, &outs[number], parkings, true);
                 return;
