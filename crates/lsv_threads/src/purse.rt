@@ -4,11 +4,11 @@ use crate::Parkings;
 use crate::gates::MOST_LANES;
 use lsv_port::Bell;
 
-/// So many bytes are counted ahead at a time: 64 KiB.
+/// A worker counts this many bytes ahead: 64 KiB.
 const PIECE: u64 = 65_536;
 
-/// The bytes that a worker has counted at each lane and not used yet, in one call of its endpoint. It counts many at once, since all
-/// workers count at the same place.
+/// The bytes that a worker has counted at each lane and not used yet, in one call of its endpoint. It counts many at once, since
+/// the count of a lane is shared by all workers.
 #[derive(Drop)]
 pub(crate) struct Purse {
     left: [u64; 8],
@@ -22,8 +22,8 @@ impl Purse {
         }
     }
 
-    /// Uses these bytes for a job to a lane. False if the lane's jobs would hold too much. A worker that counts is awake, which is
-    /// noted.
+    /// Uses these bytes for a job to a lane. False if the lane's jobs would hold too much. If more bytes are counted, it is noted
+    /// that the worker is awake.
     pub(crate) fn pay<B: Bell>(
         &mut self,
         parkings: &Parkings<B>,
