@@ -1,12 +1,9 @@
 -- What the lanes of a server did in one run, each with logs of its own.
 use Rattle.std.specs.Prelude.{◌≡◌, ◌≤◌, ℕ, zero, suc, List, [], ◌∷◌, ◌++◌, length}
-use Rattle.lsv_request.specs.declared.request.Request.TheVariants.{Restart as AsRestart}
-use Rattle.lsv_request.specs.declared.request.Restart.{Restart}
 use Rattle.lsv_session.specs.Transcript.{bodies_of}
 use Rattle.lsv_session.specs.declared.connection.ConnId.{ConnId}
 use Rattle.lsv_session.specs.declared.job.Job.{Job}
 use Rattle.lsv_turn.specs.Turns.{EndsWithGone, LaneTurn, jobs_in}
-use Rattle.lsv_machine.specs.Failures.{Act, AsksFor}
 use Rattle.lsv_machine.specs.History.{Ledger, writers}
 use Rattle.lsv_machine.specs.Machine.{IsOfLane, Machine, Settings}
 use Rattle.lsv_machine.specs.Starts.{StartsAs}
@@ -22,8 +19,8 @@ jobs_of (Begins texts ∷ history) = jobs_of history
 
 -- ---- A lane keeps to its logs
 
--- In this history of one run each connection that asks first to go on with a log asks for one of the lane, and brings nothing
--- after its end. A restart that comes later is refused, whatever log it names.
+-- In this history of one run, a connection that asks first to go on with a log asks for one of the lane. No connection brings
+-- anything after its end.
 pub record KeepsToLane (set : Settings) (history : List Happened) : Type 0 where
   pub own : (k : ConnId) (n : ℕ) → AsksFirst (bodies_of k (jobs_of history)) n → IsOfLane set.lane set.lanes n
   pub ends : (k : ConnId) → EndsWithGone (bodies_of k (jobs_of history))
@@ -55,7 +52,7 @@ pub record IsOfRun (lane lanes : ℕ) (history : List Happened) : Type 0 where
   pub runs : Run set start run end
   pub keeps : KeepsToLane set run
 
--- the history of a lane, up to some moment of a run in which it makes these turns in all; what was before that run is any history
+-- the history of a lane, up to some moment of a run in which it does the jobs of these turns in all; what was before that run is any history
 pub record MakesTurns (lane lanes : ℕ) (turns : List LaneTurn) (history : List Happened) : Type 0 where
   pub set : Settings
   pub lane_is : set.lane ≡ lane

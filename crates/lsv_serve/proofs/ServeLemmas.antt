@@ -257,6 +257,7 @@ idle_run set texts lanes asked old ports only_now same = record {
   are_placed = bays_same old.view old.disk_tells old.bays;
   stores = idle_lanes old.view old.disk_tells old.tape_tells set texts lanes old.bays only_now;
   links = inl (record { none = λ l. refl; ports = same });
+  order = λ less. same;
 }
 
 -- ---- Its end
@@ -271,6 +272,7 @@ runs_to {words = words} {starts = starts} set texts lanes asked old new before p
   are_placed = bays_same old.view old.disk_tells old.bays;
   stores = r.stores;
   links = leaves_ports words starts lanes old new posts r.turns tells begun (r.count ∙ (sym (length-map before words.view) ∙ ap length was)) is asked before was end r.links;
+  order = λ less. sym is ∙ (ap (map words.view) (r.order less) ∙ was);
 }
 
 -- what is said of a run from the bays with their places, is said of it from the bays before
@@ -281,6 +283,7 @@ run_before set texts lanes asked old new bays end placed r = record {
   are_placed = placed_trans old.view old.disk_tells old.bays bays r.placed placed r.are_placed;
   stores = r.stores;
   links = left end r.links;
+  order = r.order;
 }
   where
     left : (how : End) → EndsPorts lanes asked (record old { bays = bays }) new r.turns how → EndsPorts lanes asked old new r.turns how

@@ -18,7 +18,7 @@ pub record Asks (words : List (List ℕ)) (a : Asked) : Type 0 where
   pub taken : fault_of commands words ≡ []
   pub is : asked words ≡ Some a
 
--- of how many lanes a run asks that their disks are those that this server's runs leave
+-- how many lanes' disks must be such as this server's runs leave
 abbrev pub lanes_by : Asked → ℕ
 lanes_by (Once o) = 1
 lanes_by (Serve o) = o.lanes

@@ -119,6 +119,8 @@ pub record RunsTo {X : Type 0} (set : ℕ → Settings) (texts : List (List ℕ)
   pub are_placed : ArePlaced old.view old.disk_tells old.bays placed
   pub stores : RunsLanes old.view old.disk_tells old.tape_tells set texts lanes placed new.bays end turns
   pub links : EndsPorts lanes asked old new turns end
+  -- unless all stores were opened, the ports are as they were
+  pub order : stores.opened < lanes → new.ports ≡ old.ports
 
 -- nothing was done
 pub record IsIdle {X : Type 0} (old new : ServerWorld X) : Type 0 where
@@ -167,7 +169,7 @@ CompletesLinks set texts lanes asked old new =
     (ports : PortsEnd) (run : RunsTo set texts lanes asked old new (ends.Over ports)) (told : old.disk_tells) (ports_told : old.ports_tell) (worker : ℕ) (before after : PortView) (was : slice_get old.ports worker ≡ Some before) (is : slice_get new.ports worker ≡ Some after)
     → CompletesLanes old.view set texts lanes run.stores.opened run.placed new.bays run.turns (kept_by run told) worker before after ((run.links.served ports_told).each worker before after was is)
 
--- over disks and ports that tell the lanes of a run keep apart, however it ended
+-- over disks and ports that tell, the lanes of a run keep apart, however it ended
 abbrev pub KeepLanesApart : {X : Type 0} → (ℕ → Settings) → List (List ℕ) → (lanes : ℕ) → Listening → (old new : ServerWorld X) → Type 0
 KeepLanesApart set texts lanes asked old new = (end : End) (run : RunsTo set texts lanes asked old new end) → old.disk_tells → old.ports_tell → KeepApart old.view lanes run.placed new.bays run.turns
 

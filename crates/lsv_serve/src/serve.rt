@@ -147,7 +147,7 @@ fn serve_bays<
     )
 }
 
-/// Serves what comes at the ports over the stores of the first lanes, with event lines of this formatter.
+/// Serves what comes at the ports over the stores of this many lanes, with event lines of this formatter.
 fn serve_by<
     S,
     K,
@@ -247,7 +247,8 @@ fn serve_by<
 }
 
 /// Serves what comes at the ports, over the stores of the first `lanes` lanes, until each port has told Stop or failed: a thread for
-/// each port and for each lane, but lane 0 in the caller's. Nothing else changes the stores while it runs.
+/// each port and for each lane, but lane 0 in the caller's. Nothing else changes the stores while it runs. The disks of all lanes
+/// may be one folder, in which each lane has files of its own.
 pub fn run_serve<
     S,
     K,

@@ -234,6 +234,11 @@ module _ {D C G L : Type 0} (disk : Disk.Ghosts D) (tape : Tape.Ghosts G) (made_
           after l (inl more) = omega (arith, more)
           after l (inr high) = high
 
+      -- each store was opened
+      pub opened_all : leaves_served.runs.opened ≡ lanes
+      unfolding leaves_served
+      opened_all = refl
+
     -- ---- One couldn't be opened
 
     module _ (left : Bay D C G) (fault : StoreFault) (rest : List (Bay D C G)) (before : AreOpened made_by (set_of kind log_exit lanes) texts olds given) (one : RefusesOne disk tape (set_of kind log_exit lanes) texts lanes olds (length given) left fault rest) (fresh : disk.tells → AreFreshBays view lanes olds) where

@@ -23,7 +23,7 @@ use Rattle.lsv_service.specs.declared.run.End.{End}
 use Rattle.lsv_service.specs.declared.run.End.TheVariants.{Store, NoMem}
 use Rattle.lsv_service.proofs.Places.{there_at}
 use Rattle.lsv_service.proofs.RunLemmas.{keeps_links, leaves_links, served_opened}
-use Rattle.lsv_service.proofs.Stores.{leaves_served, set_of}
+use Rattle.lsv_service.proofs.Stores.{leaves_served, opened_all, set_of}
 
 -- a store couldn't be opened
 pub refused_whole : {T X : Type 0} (words : Endpoint.Ghosts T) (view : X → BayView) (tells taping : Type 0) (set : ℕ → Settings) (texts : List (List ℕ)) (lanes : ℕ) (starts : ℕ → words.Start) (asked : Listening) (olds news : List T) (bays left : List X) (fault : StoreFault) (end : End)
@@ -34,6 +34,7 @@ refused_whole {T} words view tells taping set texts lanes starts asked olds news
     stores = s.runs;
     count = ap length same;
     links = subst (λ (e : End). LeavesLinks words tells lanes starts asked olds news (λ l. []) e) (sym ended) (subst (λ (es : List T). LeavesLinks words tells lanes starts asked olds es (λ l. []) (end_of_fault Store NoMem fault)) (sym same) (keeps_links words tells lanes starts asked olds fault));
+    order = λ less. same;
   };
   places = s.places;
   fresh = s.fresh;
@@ -69,12 +70,14 @@ module _ {T D C G L : Type 0} (words : Endpoint.Ghosts T) (disk : Disk.Ghosts D)
   unfolding begins
   served_whole starts asked before after given backs rest left served end run give rest_is left_is end_is =
       let s = run.served in
-      let stores = leaves_served disk tape made_by kind log_exit texts lanes olds given backs give rest s.turns (end_of_serving served) s.lanes_size most rest_is
-      (λ l lane found at was. subst (λ (b : Bay D C G). made_by (begin_of (set_of kind log_exit lanes) texts l b) lane (s.turns l)) (get_or_from_slice_get olds l found first.0 was) (s.made l lane at)) s.past s.are (served_opened served) in
+      let made : (l : ℕ) (lane : L) (found : Bay D C G) → slice_get given l ≡ Some lane → slice_get olds l ≡ Some found → made_by (begin_of (set_of kind log_exit lanes) texts l found) lane (s.turns l) =
+      (λ l lane found at was. subst (λ (b : Bay D C G). made_by (begin_of (set_of kind log_exit lanes) texts l b) lane (s.turns l)) (get_or_from_slice_get olds l found first.0 was) (s.made l lane at)) in
+      let stores = leaves_served disk tape made_by kind log_exit texts lanes olds given backs give rest s.turns (end_of_serving served) s.lanes_size most rest_is made s.past s.are (served_opened served) in
+      let all : stores.runs.opened ≡ lanes = opened_all disk tape made_by kind log_exit texts lanes olds given backs give rest s.turns (end_of_serving served) s.lanes_size most rest_is made s.past s.are (served_opened served) in
       subst (λ (e : End). RunsWhole words (bay_by disk tape) disk.tells tape.tells (set_of kind log_exit lanes) texts lanes starts asked before after olds left e) (sym end_is)
       (subst (λ (bays : List (Bay D C G)). RunsWhole words (bay_by disk tape) disk.tells tape.tells (set_of kind log_exit lanes) texts lanes starts asked before after olds bays (end_of_serving served)) (sym left_is)
       (record {
-        runs = record { turns = s.turns; stores = stores.runs; count = s.size ∙ run.size; links = leaves_links words disk.tells lanes starts asked before after s.turns served run.listens s.ended s.broken };
+        runs = record { turns = s.turns; stores = stores.runs; count = s.size ∙ run.size; links = leaves_links words disk.tells lanes starts asked before after s.turns served run.listens s.ended s.broken; order = λ less. absurd (omega (arith, less, all)) };
         places = stores.places;
         fresh = stores.fresh;
       }))

@@ -7,9 +7,9 @@ use Rattle.lsv_machine.specs.Turns.{Happened}
 use Rattle.lsv_turn.specs.Turns.{LaneTurn, jobs_in}
 use Rattle.lsv_service.specs.Lanes.{BayView}
 
--- The lanes of a run keep apart. Each got the jobs of the connections whose lane it is, and touched no file but those of its own store.
--- The histories are any that the machine may have by the turns of each lane. Take any moment of each lane: by all that happened in
--- the lanes up to then, no log has two writers.
+-- The lanes of a run keep apart. Each got jobs only of connections whose lane it is, and touched only files of its own store.
+-- The histories are any that the machine may have by the jobs of each lane's turns. Take any moment of each lane: by all that
+-- happened in the lanes up to then, no log has two writers.
 pub record KeepApart {X : Type 0} (view : X → BayView) (lanes : ℕ) (olds news : List X) (turns : ℕ → List LaneTurn) : Type 0 where
   pub came : (l : ℕ) → CameTo l lanes (jobs_in (turns l))
   pub own : (l : ℕ) (found left : X) → l < lanes → slice_get olds l ≡ Some found → slice_get news l ≡ Some left → TouchesStore l lanes (λ n. ⊥) (view found).disk (view left).disk

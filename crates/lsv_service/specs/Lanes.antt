@@ -44,8 +44,7 @@ OpensSome (Over ports) lanes opened = opened ≡ lanes
 OpensSome (Store fault) lanes opened = opened < lanes
 OpensSome NoMem lanes opened = opened ≤ lanes
 
--- How the run of an opened lane ended, as its store is described: at each end of the run it was opened. If another lane's store
--- couldn't be opened, it ended without a turn.
+-- By which end the store of an opened lane is described: one that says that it was opened.
 abbrev pub end_of_open : End → End
 end_of_open (Over ports) = Over ports
 end_of_open (Store fault) = Over Stopped
@@ -79,8 +78,8 @@ pub record RunsLanes {X : Type 0} (view : X → BayView) (disk_tells tape_tells 
 
 -- ---- The ports
 
--- What endpoints did whose run came to no end of its own, out of memory: none did anything, and no turn was made. Or each listened at
--- this, the turns' jobs are the first of what was read, and nothing was put but prefixes of their answers.
+-- What endpoints did out of memory. None did anything, and no turn was made. Or each listened at this, and their links were served
+-- up to some point (`PutsLanes`).
 abbrev pub BreaksOff : {T : Type 0} (words : Endpoint.Ghosts T) (lanes : ℕ) (starts : ℕ → words.Start) (asked : Listening) (olds news : List T) (turns : ℕ → List LaneTurn) → Type 0
 BreaksOff words lanes starts asked olds news turns = (((l : ℕ) → turns l ≡ []) × (news ≡ olds)) ⊎ ((words.tells → ListenAt words.view asked olds news) × PutsLanes words lanes starts news turns)
 
@@ -97,3 +96,5 @@ pub record RunsServer {T X : Type 0} (words : Endpoint.Ghosts T) (view : X → B
   pub stores : RunsLanes view disk_tells tape_tells set texts lanes bays bays' end turns
   pub count : length news ≡ length olds
   pub links : LeavesLinks words disk_tells lanes starts asked olds news turns end
+  -- unless all stores were opened, the endpoints did nothing
+  pub order : stores.opened < lanes → news ≡ olds

@@ -44,7 +44,7 @@ pub fn a_legal_conversation_is_served_by_its_home_lane<D: Disk, C: Clock, G: Tap
 {}
 
 /// In a run whose endpoints and disks tell their content the lanes keep apart, however it ended: also out of memory, and if a
-/// store couldn't be opened. Each lane got the jobs of its connections and touched the files of its own store alone, and no log
+/// store couldn't be opened. Each lane got jobs only of its connections and touched only files of its own store, and no log
 /// has two writers in all lanes together.
 pub fn lanes_keep_apart<T: Endpoint, D: Disk, C: Clock, G: Tape>()
     ensures { (kind : Kind) (log_exit : Bool) (texts : List (List ℕ)) (lanes : ℕ) (starts : ℕ → T.Start) (asked : Listening) (olds news : List T) (bays left : List (Bay D C G)) (end : End) →
