@@ -643,6 +643,8 @@ def part_client_turned_away(program):
         wanted = [f"sudo_logsrvd: 128 clients are connected, 127.0.0.1:{port} was turned away; see who they are by ss -tn 'sport = :{on.place.port}'" for port in away]
         same(f"lines of {said!r}", (said[:1], [line for line in said if line not in wanted]), (wanted[:1], []))
         for link in links:
+            # the place among the 128 links is free again once the server has ended this one
+            link.rest()
             link.close()
         on.sessions(1)
 
