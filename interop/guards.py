@@ -644,6 +644,7 @@ def part_client_turned_away(program):
         same(f"lines of {said!r}", (said[:1], [line for line in said if line not in wanted]), (wanted[:1], []))
         for link in links:
             # the place among the 128 links is free again once the server has ended this one
+            link.link.shutdown(socket.SHUT_WR)
             link.rest()
             link.close()
         on.sessions(1)
