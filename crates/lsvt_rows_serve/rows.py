@@ -110,6 +110,21 @@ def name_of(data: bytes) -> str:
     return names[data]
 
 
+def settled(put: bytes, has_exit: bool) -> bytes:
+    """Of commit points one after the other only the last, and none of a session without an exit.
+
+    How many there are depends on the turns of the lane: one is told at the end of a turn to who is still there, and at an
+    exit.
+    """
+    framed = []
+    while put:
+        end = 4 + int.from_bytes(put[:4], "big")
+        framed.append(put[:end])
+        put = put[end:]
+    is_point = [f[4:5] == b"\x12" for f in framed] + [False]
+    return b"".join(f for n, f in enumerate(framed) if not (is_point[n] and (is_point[n + 1] or not has_exit)))
+
+
 def digest(data: bytes) -> str:
     """The number of bytes and their digest."""
     return f"{len(data)} bytes {hashlib.md5(data).hexdigest()}"
@@ -147,10 +162,12 @@ class Log:
 class Server:
     """A store, the runs over it, and what becomes of them."""
 
-    def __init__(self, title: str) -> None:
-        """A new store."""
+    def __init__(self, title: str, *conf: str, lanes: int = 1) -> None:
+        """A new store of so many lanes, and lines of settings."""
         ROWS.title(title)
         lines.append("server")
+        lines.extend(f"conf {line}" for line in conf)
+        self.lanes = lanes
         self.logs: dict[int, Log] = {}
         self.begin()
 
@@ -164,18 +181,35 @@ class Server:
         self.ports.append(Port(self, len(self.ports)))
         return self.ports[-1]
 
-    def new_log(self) -> int:
-        """The number of a new log."""
-        number = len(self.logs) + 1
+    def new_log(self, seq: int) -> int:
+        """The number of a new log of a connection: the next one of its home lane."""
+        lane = seq % self.lanes
+        number = max((n for n in self.logs if self.lane_of(n) == lane), default=lane + 1 - self.lanes) + self.lanes
         self.logs[number] = Log()
         return number
+
+    def lane_of(self, number: int) -> int:
+        """The lane of a log."""
+        return (number - 1) % self.lanes
 
     def run(self, status: str = "0 ") -> None:
         """The loop runs on its one port, on one thread: what comes of each step is known."""
         self.give_ports()
         lines.append("run")
-        self.show_links()
-        self.show_rest(status)
+        self.show_links(lambda link: link.put)
+        self.show_rest(self.order, status)
+
+    def top(
+        self, words: str = "serve -f conf", status: str = "0 ", serves: str | None = "*:30343 logs /var/log/sudo-io",
+        until: str = "",
+    ) -> None:
+        """The program runs on its ports, on threads."""
+        self.give_ports()
+        lines.append(f"top {words}")
+        if serves:
+            wanted.append(f"serves {serves} last {self.stored()}{until}")
+        self.show_links(lambda link: settled(link.put, "exit" in link.jobs))
+        self.show_rest(sorted(self.order, key=lambda link: (link.port.place, link.seq)), status)
 
     def give_ports(self) -> None:
         """The scripts of its ports."""
@@ -183,20 +217,25 @@ class Server:
             lines.append("port")
             lines.extend(its.lines)
 
-    def show_links(self) -> None:
+    def show_links(self, shows: Callable[[Link], bytes]) -> None:
         """What was put on each link."""
         for its in self.ports:
             for link in its.links:
-                wanted.append(f"link {its.place}.{link.link} read {link.read}, put {short(link.put)}")
+                wanted.append(f"link {its.place}.{link.link} read {link.read}, put {short(shows(link))}")
 
-    def show_rest(self, status: str) -> None:
-        """The jobs of the links, the status, and the logs."""
-        for link in self.order:
+    def show_rest(self, links: Iterable[Link], status: str) -> None:
+        """The jobs of the links, the status, and the logs, lane by lane."""
+        for link in links:
             wanted.append(f"jobs {link.port.place}.{link.seq}{link.brought()}")
         wanted.append(f"status {status}")
-        for number, log in sorted(self.logs.items()):
-            wanted.append(f"log {number} {log.shown()}")
+        for number in sorted(self.logs, key=lambda n: (self.lane_of(n), n)):
+            wanted.append(f"log {number} {self.logs[number].shown()}")
         self.begin()
+
+    def stored(self) -> int:
+        """The last log number that was drawn before this run."""
+        made = {link.made for port in self.ports for link in port.links}
+        return max((n for n in self.logs if n not in made), default=0)
 
 
 class Port:
@@ -354,7 +393,7 @@ class Link:
 
     def on_accept(self, _: Message) -> bytes:
         """A log is begun."""
-        self.made = self.server.new_log()
+        self.made = self.server.new_log(self.seq)
         self.log = self.server.logs[self.made]
         return log_id(self.made)
 
@@ -391,12 +430,15 @@ class Link:
             self.log.flush()
 
 
+PLACES = ("[iolog]", "iolog_dir = store", "[logfile]", "path = store/events")
+STORE = "*:30343 logs store"
+
 # ---- what comes on two links, one of which brings no message
 
 
 def no_message_beside() -> None:
     """What comes on two links, one of which brings no message."""
-    server = Server("bytes that are no message, beside a session byte by byte")
+    server = Server("bytes that are no message, beside a session byte by byte", *PLACES)
     port = server.port()
     one, two = port.open(1), port.open(2)
     one.trickle(ACCEPT.frame + EXIT.frame)
@@ -420,14 +462,161 @@ def no_message_beside() -> None:
     server.run()
 
 
-# ---- a port that fails
+# ---- ports that fail, settings and words
 
 
 def ports_that_fail() -> None:
-    """A port that fails."""
+    """Ports that fail. Each port's sessions are of a lane of their own, so that their logs' numbers are known."""
     server = Server("the first turn of the port fails")
     server.port().fail()
     server.run(status="7 port fault")
+    server.port().fail()
+    server.top(status="7 port fault")
+
+    title = "a port fails while its link is open: what had come is stored, and another port is served to its end"
+    server = Server(title, lanes=2)
+    first, other = server.port(), server.port()
+    one = first.open(1)
+    idle(other, 9)
+    two = other.open(1)
+    one.give(SHORT, FIRST)
+    other.step("wake")
+    first.fail()
+    two.give(HELLO, SHORT)
+    two.give(FIRST, EXIT)
+    two.last()
+    other.stop()
+    server.top("serve --lanes 2 -f conf", status="7 port fault")
+
+    server = Server("two ports, each step by step", lanes=2)
+    first, other = server.port(), server.port()
+    one = first.open(1)
+    idle(other, 9)
+    two = other.open(1)
+    one.give(SHORT)
+    other.step("wake")
+    first.step("wake")
+    two.give(SHORT)
+    one.give(FIRST)
+    two.give(SECOND_ONE)
+    first.stop()
+    two.give(THIRD, EXIT)
+    idle(other, 8)
+    three = other.open(7)
+    three.give(SHORT, EXIT)
+    other.stop()
+    server.top("serve --lanes 2 -f conf")
+
+
+def idle(port: Port, number: int) -> None:
+    """A link that brings nothing: the connection after it is of the next lane."""
+    port.open(number).last()
+
+
+# ---- several lanes
+
+
+def several_lanes() -> None:
+    """Several lanes: a connection's lane is that of its number, or of the log that it asks for."""
+    server = Server("two lanes: numbers of logs go by lane, and a restart goes to the lane of its log", lanes=2)
+    port = server.port()
+    one, two, three = port.open(1), port.open(2), port.open(3)
+    for link in (one, two, three):
+        link.give(HELLO, SHORT, FIRST)
+    assert (one.made, two.made, three.made) == (2, 1, 4)
+    for link in (one, two, three):
+        link.last()
+    idle(port, 4)
+    five = port.open(5)
+    assert five.seq == 5
+    five.give(HELLO, restart(1, SECOND // 2))
+    five.give(SECOND_ONE)
+    five.give(EXIT)
+    port.stop()
+    server.top("serve --lanes 2 -f conf")
+
+    for words in ("once -f conf", "load 1 -f conf", "serve --lanes 1 -f conf", "serve --lanes 3 -f conf"):
+        server.port()
+        server.top(words, status="4 store", serves=None)
+    port = server.port()
+    one = port.open(1)
+    one.give(HELLO, restart(4, SECOND // 2))
+    one.give(EXIT)
+    two = port.open(2)
+    two.give(SHORT, EXIT)
+    port.stop()
+    server.top("serve --lanes 2")
+
+    server = Server("four lanes and four ports: each port's sessions are of one lane", lanes=4)
+    for place in range(4):
+        port = server.port()
+        for number in range(1, 13):
+            if number % 4 != place:
+                idle(port, number)
+                continue
+            link = port.open(number)
+            link.give(HELLO, SHORT)
+            link.trickle(FIRST.frame + SECOND_ONE.frame + THIRD.frame + EXIT.frame)
+        port.stop()
+    server.top("serve --lanes 4 -f conf")
+
+    server = Server("more jobs than an inbox holds, for two lanes at once", lanes=2)
+    port = server.port()
+    links = [port.open(n) for n in range(1, 5)]
+    many = 3000
+    lines.append(f"times much {many} {name_of(TICK.frame)}")
+    for link in links:
+        link.give(SHORT)
+        port.step(f"give {link.link} much")
+        take(link, many)
+        link.put += point(many)
+        link.give(EXIT)
+    port.stop()
+    server.top("serve --lanes 2 -f conf")
+
+
+def settings_and_words() -> None:
+    """Settings and words."""
+    refused: tuple[tuple[str, tuple[str, ...], str, str], ...] = (
+        ("a line of the settings is refused",
+            ("[server]", "listen_address = *:30343", "[relay]", "store_first = maybe"), "serve -f conf",
+            "3 settings line 4"),
+        ("a word that is none", PLACES, "serve -x", "2 usage"),
+        ("more lanes than there may be", PLACES, "serve --lanes 5", "2 usage"),
+        ("no number of connections", PLACES, "serve --stop-after 0", "2 usage"),
+    )
+    for title, conf, words, status in refused:
+        server = Server(f"{title}: nothing is touched", *conf)
+        untouched(server)
+        server.top(words, status, serves=None)
+    server = Server("the settings can't be read: nothing is touched")
+    lines.append("unreadable")
+    untouched(server)
+    server.top(status="3 settings line 0", serves=None)
+
+    server = Server("where it listens, and after how many links it is to end", "; local", "[Server]",
+        "Listen_Address = *:30344")
+    server.port().stop()
+    server.top("serve --stop-after 2 -f conf", serves="*:30344 logs /var/log/sudo-io", until=" until 2")
+    server.port().stop()
+    server.top("serve --lanes 1")
+
+    server = Server("bytes that are no message, beside a session byte by byte, on threads", *PLACES)
+    port = server.port()
+    one, two = port.open(1), port.open(2)
+    one.trickle(ACCEPT.frame + EXIT.frame)
+    two.give(bytes.fromhex("00200001"))
+    one.last()
+    two.last()
+    port.stop()
+    server.top(serves=STORE)
+
+
+def untouched(server: Server) -> None:
+    """A port whose link would be served."""
+    port = server.port()
+    for line in ("open 1", f"give 1 {name_of(SHORT.frame)}", "stop"):
+        port.step(line)
 
 
 # ---- one fault, one connection
@@ -632,6 +821,8 @@ def main() -> None:
     """Writes all scripts."""
     no_message_beside()
     ports_that_fail()
+    settings_and_words()
+    several_lanes()
     one_log_fails()
     many_links()
     takes_nothing("a turn of the port fails: it was read up to 65,536 unsent bytes", then_fails)

@@ -5,13 +5,14 @@ ghost use Rattle.std.specs.Mem.{FitsInMemory};
 
 use crate::outside::Still;
 use crate::run::policy;
+use crate::tape::Jobs;
 use anyhow::{Result, anyhow};
 use lsv_endpoint::WorkerEndpoint;
 use lsv_keeper::LaneId;
 use lsv_lane::{Bay, StoreLane};
 use lsv_reactor::{Endpoint, PortsEnd, serve};
 use lsv_serve::Status;
-use lsv_turn::{Lane, MemTape};
+use lsv_turn::Lane;
 use lsvt_doubles::{Hostile, Watched};
 use std::alloc::Global;
 use std::slice;
@@ -21,7 +22,7 @@ use std::slice;
 pub struct Left {
     pub port: Watched,
     pub disk: Hostile,
-    pub tape: MemTape,
+    pub tape: Jobs,
     pub status: Status,
 }
 
@@ -45,7 +46,7 @@ pub fn serve_alone(alloc: Global, port: Watched, disk: Hostile) -> Result<Left> 
     let bay = Bay {
         disk,
         clock: Still,
-        tape: MemTape::new(alloc),
+        tape: Jobs::new(alloc),
     };
     let lane = LaneId { number: 0, of: 1 };
     let Ok(mut lane) = StoreLane::open(alloc, bay, lane, policy(alloc)) else {

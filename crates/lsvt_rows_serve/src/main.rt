@@ -9,6 +9,7 @@ mod names;
 mod outside;
 mod run;
 mod script;
+mod settled;
 mod show;
 mod tape;
 
@@ -19,6 +20,8 @@ use crate::script::Scripts;
 use anyhow::Result;
 use std::io::{BufRead, BufReader};
 use std::process::ExitCode;
+use std::sync::Wait;
+use std::thread::Threads;
 
 /// What was read so far: the named bytes, the scripts of the ports, what else the program is to stand in, and the store of
 /// loads.
@@ -50,7 +53,12 @@ impl Setting {
     }
 
     /// Does what a line says. One of another form is printed as it is.
-    fn answer(&mut self, rt: &HostRuntime, line: &str) -> Result<()> {
+    fn answer<R: Threads + Wait + Sync>(
+        &mut self,
+        rt: &HostRuntime,
+        threads: &R,
+        line: &str,
+    ) -> Result<()> {
         let alloc = rt.alloc();
         let (word, rest) = line.split_once(' ').unwrap_or((line, ""));
         match word {
@@ -58,25 +66,28 @@ impl Setting {
             "load" => self.loads.answer(rt, rest),
             "let" => self.names.add(alloc, rest),
             "times" => self.names.multiply(alloc, rest),
+            "conf" => self.world.add_line(alloc, rest),
+            "unreadable" => Ok(self.world.is_unreadable = true),
             "mend" => disk::mend(&mut self.world, alloc),
             "faulty" => disk::fail_sync(&mut self.world, alloc, rest),
-            "run" => run::show(rt, &mut self.world, self.scripts.take(alloc)),
+            "run" => run::show_one(rt, &mut self.world, self.scripts.take(alloc)),
+            "top" => run::show(rt, threads, &mut self.world, self.scripts.take(alloc), rest),
             _ if self.scripts.add(alloc, &self.names, word, rest)? => Ok(()),
             _ => Ok(println!(rt; "{line}")?),
         }
     }
 }
 
-fn answer_all(rt: &HostRuntime) -> Result<()> {
+fn answer_all<R: Threads + Wait + Sync>(rt: &HostRuntime, threads: &R) -> Result<()> {
     let mut setting = Setting::new(rt)?;
     for line in BufReader::new(rt.alloc(), rt.reader())?.lines(rt.alloc()) {
-        setting.answer(rt, line?.as_str())?;
+        setting.answer(rt, threads, line?.as_str())?;
     }
     Ok(())
 }
 
 fn main(rt: HostRuntime) -> ExitCode {
-    match answer_all(&rt) {
+    match answer_all(&rt, &rt) {
         Ok(()) => ExitCode::SUCCESS,
         Err(e) => {
             let _ = eprintln!(rt; "lsvt_rows_serve: {e}");

@@ -1,6 +1,9 @@
 //! What is printed of a run.
 
 use crate::alone::Left;
+use crate::outside::Told;
+use crate::run::MemOutside;
+use crate::settled::settled;
 use crate::tape::{Jobs, show_jobs};
 use anyhow::{Result, anyhow};
 use lsv_base::LogNo;
@@ -10,7 +13,7 @@ use lsv_serve::Status;
 use lsvt_doubles::{Hostile, Watched};
 use md5::{Digest, Md5};
 use std::alloc::Global;
-use std::str;
+use std::{mem, str};
 
 /// The most bytes of a link, and of a log, that are printed one by one.
 const MOST_PUT: usize = 512;
@@ -27,15 +30,33 @@ fn shown(alloc: Global, bytes: &[u8], most: usize) -> Result<String> {
     Ok(format!(in alloc; "{} bytes {digits}", bytes.len())?)
 }
 
-/// Prints of each link of a port how many bytes were read of it, and those that were put on it.
-fn show_port(rt: &HostRuntime, place: usize, watched: &Watched) -> Result<()> {
+/// Prints what a server told at its start.
+fn show_told(rt: &HostRuntime, told: &Told) -> Result<()> {
+    let address = str::from_utf8(told.address.as_slice()).map_err(|_| anyhow!("no text"))?;
+    let logs = str::from_utf8(told.logs.as_slice()).map_err(|_| anyhow!("no text"))?;
+    let last = told.last;
+    match told.stop_after {
+        Some(count) => println!(rt; "serves {address} logs {logs} last {last} until {count}")?,
+        None => println!(rt; "serves {address} logs {logs} last {last}")?,
+    }
+    Ok(())
+}
+
+/// Prints of each link of a port how many bytes were read of it, and those that were put on it. `settles`: without what depends on
+/// the schedule of threads.
+fn show_port(rt: &HostRuntime, place: usize, watched: &Watched, settles: bool) -> Result<()> {
     let alloc = rt.alloc();
     if watched.misused > 0 {
         println!(rt; "port {place} misused")?;
     }
     let port = &watched.port;
     for link in port.opened() {
-        let put = shown(alloc, port.output(*link), MOST_PUT)?;
+        let put = if settles {
+            settled(alloc, port.input(*link), port.output(*link))?
+        } else {
+            port.output(*link).to_vec(alloc)?
+        };
+        let put = shown(alloc, &put, MOST_PUT)?;
         let read = port.input(*link).len();
         let open = if port.is_open(*link) { ", open" } else { "" };
         println!(rt; "link {place}.{link} read {read}, put {put}{open}")?;
@@ -111,6 +132,20 @@ fn show_logs(rt: &HostRuntime, disk: &mut Hostile) -> Result<()> {
     Ok(())
 }
 
+/// The most logs that a lane's store is looked through for, where there are several.
+const MOST_OF_LANE: u32 = 16;
+
+/// The logs of one of several lanes, those that are there.
+fn show_lane(rt: &HostRuntime, disk: &mut Hostile) -> Result<()> {
+    for n in 1..MOST_OF_LANE {
+        let number = LogNo::new(n).ok_or(anyhow!("a number"))?;
+        if let Some(text) = log_text(rt.alloc(), disk, number)? {
+            println!(rt; "log {n} {text}")?;
+        }
+    }
+    Ok(())
+}
+
 /// Prints how a run ended.
 fn show_status(rt: &HostRuntime, status: Status) -> Result<()> {
     let text = status.text(rt.alloc())?;
@@ -121,10 +156,32 @@ fn show_status(rt: &HostRuntime, status: Status) -> Result<()> {
 
 /// Prints what a run on one thread put and kept, how it ended, and what the store holds.
 pub fn show_alone(rt: &HostRuntime, left: &mut Left) -> Result<()> {
-    show_port(rt, 0, &left.port)?;
-    let mut jobs = Jobs::new(rt.alloc());
-    jobs.add_tape(&left.tape)?;
-    show_jobs(rt, &mut jobs)?;
+    show_port(rt, 0, &left.port, false)?;
+    show_jobs(rt, &mut left.tape)?;
     show_status(rt, left.status)?;
     show_logs(rt, &mut left.disk)
+}
+
+/// Prints what a run on threads told, put and kept, how it ended, and what the store holds, as far as it is the same for each schedule.
+pub fn show_all(rt: &HostRuntime, out: &mut MemOutside, status: Status) -> Result<()> {
+    for told in &out.notices.told {
+        show_told(rt, told)?;
+    }
+    let mut place = 0usize;
+    for port in &out.ports {
+        show_port(rt, place, port, true)?;
+        place = place.saturating_add(1);
+    }
+    let mut jobs = mem::replace(&mut out.tape, Jobs::new(rt.alloc()));
+    for bay in &mut out.others {
+        jobs.add_all(mem::replace(&mut bay.tape, Jobs::new(rt.alloc())))?;
+    }
+    jobs.sort()?;
+    show_jobs(rt, &mut jobs)?;
+    show_status(rt, status)?;
+    show_lane(rt, &mut out.disk)?;
+    for bay in &mut out.others {
+        show_lane(rt, &mut bay.disk)?;
+    }
+    Ok(())
 }

@@ -1,9 +1,13 @@
-//! What is printed of a tape: the jobs of each connection, in order.
+//! A tape that keeps what is printed of it: the jobs of each connection, in order.
+
+ghost use Rattle.std.specs.Prelude.{[]};
 
 use anyhow::{Result, anyhow};
+use lsv_base::{NoMem, TimeSpec};
 use lsv_msg::ClientMessage;
+use lsv_queue::Gap;
 use lsv_session::{Body, ConnId, Fault, Job};
-use lsv_turn::MemTape;
+use lsv_turn::Tape;
 use std::alloc::Global;
 
 /// What a connection brought, one kind after the other.
@@ -87,6 +91,8 @@ impl Brought {
 pub struct Jobs {
     alloc: Global,
     all: Vec<Brought>,
+    /// Whether each job was kept.
+    is_whole: bool,
 }
 
 impl Jobs {
@@ -95,6 +101,7 @@ impl Jobs {
         Jobs {
             alloc,
             all: Vec::new(alloc),
+            is_whole: true,
         }
     }
 
@@ -107,19 +114,46 @@ impl Jobs {
         its.ok_or(anyhow!("a connection"))?.add(self.alloc, job)
     }
 
-    /// Adds those of a tape.
-    pub fn add_tape(&mut self, tape: &MemTape) -> Result<()> {
-        for turn in tape.turns() {
-            for job in turn.jobs.as_slice() {
-                self.add(job)?;
+    /// Adds those of another tape.
+    pub fn add_all(&mut self, other: Jobs) -> Result<()> {
+        for brought in other.all {
+            self.all.push(brought)?;
+        }
+        self.is_whole = self.is_whole && other.is_whole;
+        Ok(())
+    }
+
+    /// Puts the connections into the order of their numbers.
+    pub fn sort(&mut self) -> Result<()> {
+        Ok(self.all.sort_by(|a, b| (a.conn.worker, a.conn.seq).cmp(&(b.conn.worker, b.conn.seq)))?)
+    }
+}
+
+impl Tape for Jobs {
+    ghost tells = { ⊥ };
+
+    ghost turns = { λ _. [] };
+
+    ghost has_room = { λ _ _. Unit {0} };
+
+    fn room(&mut self, _jobs: &[Job]) -> Result<(), NoMem> {
+        Ok(())
+    }
+
+    fn keep(&mut self, jobs: &[Job], _now: TimeSpec, _gap: Option<Gap<Job>>) {
+        for job in jobs {
+            if self.add(job).is_err() {
+                self.is_whole = false;
             }
         }
-        Ok(())
     }
 }
 
 /// Prints the jobs of each connection.
 pub fn show_jobs(rt: &HostRuntime, jobs: &mut Jobs) -> Result<()> {
+    if !jobs.is_whole {
+        return Err(anyhow!("out of memory"));
+    }
     for brought in &mut jobs.all {
         brought.settle(jobs.alloc)?;
         println!(rt;
