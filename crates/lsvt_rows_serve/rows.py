@@ -113,8 +113,7 @@ def name_of(data: bytes) -> str:
 def settled(put: bytes, has_exit: bool) -> bytes:
     """Of commit points one after the other only the last, and none of a session without an exit.
 
-    How many there are depends on the turns of the lane: one is told at the end of a turn to who is still there, and at an
-    exit.
+    How many there are depends on the turns of the lane: one comes at the end of a turn, and one at an exit.
     """
     framed = []
     while put:
