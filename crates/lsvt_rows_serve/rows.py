@@ -162,7 +162,7 @@ class Server:
     """A store, the runs over it, and what becomes of them."""
 
     def __init__(self, title: str, *conf: str, lanes: int = 1) -> None:
-        """A new store of so many lanes, and lines of settings."""
+        """A new store of this many lanes, and lines of settings."""
         ROWS.title(title)
         lines.append("server")
         lines.extend(f"conf {line}" for line in conf)
