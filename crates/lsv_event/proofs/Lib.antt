@@ -1,3 +1,5 @@
 mod Days
 mod OneLines
 mod Parts
+mod Quiet
+mod Uncontrolled

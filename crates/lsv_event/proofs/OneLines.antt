@@ -1,6 +1,6 @@
 -- No control byte stands in a line before its line feed.
 use Rattle.std.proofs.Common.{◌≡◌, ℕ, zero, suc, ◌+◌, ◌/◌, ◌%◌, ◌<◌, ◌≤◌, ◌⊎◌, inl, inr, ℤ, pos, negsuc, List, [], ◌∷◌, ◌++◌, Bool, true, false, refl, ap, ◌∙◌, arith, Option, Some, None, codes, cond}
-use Rattle.std.specs.Prelude.{if◌then◌else◌, nat_le, nat_lt, ◌&&◌, ◌||◌, ◌==◌, decimal, All, unsigned_abs}
+use Rattle.std.specs.Prelude.{if◌then◌else◌, nat_le, nat_lt, ◌&&◌, ◌||◌, ◌==◌, not, decimal, All, unsigned_abs}
 use Rattle.std.specs.Fmt.{signed_decimal, digits, digits_onto, digit_glyph}
 use Rattle.std.specs.Char.{digit_char}
 use Rattle.std.specs.List.{flat_map, list_all}
@@ -15,6 +15,7 @@ use Rattle.lsv_info.specs.declared.times.Exit.{Exit as Ended}
 use Rattle.lsv_info.specs.declared.info.Info.{Info}
 use Rattle.lsv_event.specs.Events.{IsOneLine, IsVisible}
 use Rattle.lsv_event.specs.Escapes.{escaped, escaped_byte, is_plain, octal}
+use Rattle.lsv_event.specs.Controls.{byte_after, is_lead, is_second, lead_before, numbered, uncontrolled}
 use Rattle.lsv_event.specs.Dates.{Day, clock_text, date_of, day_of, day_text, two_digits}
 use Rattle.lsv_event.specs.SudoLine.{sudo_line, joined, part, part_if, part_unless_empty, parts_of, command_parts, exit_parts, core_part, line_start, dated, who_of}
 use Rattle.lsv_event.specs.JsonLine.{json_line, event_value}
@@ -267,6 +268,37 @@ mutual
   members_calm later no_members = record { holds = refl }
   members_calm later (member k d ms) = join (comma_calm later) (join (quoted_calm k) (then_each refl (join (text_calm d) (members_calm true ms))))
 
+numbered_calm : (code : ℕ) → Each calm (numbered code)
+numbered_calm code = record { holds = both (char_calm (code / 16)) (both (char_calm (code % 16)) refl) }
+
+lead_calm : (before byte : ℕ) → Each calm (lead_before before byte)
+lead_calm before byte = go (is_lead before && not (is_second byte))
+  where
+    go : (b : Bool) → Each calm (if b then 194 ∷ [] else [])
+    go true = record { holds = refl }
+    go false = record { holds = refl }
+
+after_calm : (before byte : ℕ) → calm byte ≡ true → Each calm (byte_after before byte)
+after_calm before byte e = go (is_lead byte) (byte == 127 || (is_lead before && is_second byte))
+  where
+    go : (a b : Bool) → Each calm (if a then [] else (if b then numbered byte else byte ∷ []))
+    go true b = record { holds = refl }
+    go false true = numbered_calm byte
+    go false false = record { holds = both e refl }
+
+uncontrolled_calm : (before : ℕ) (text : List ℕ) → list_all calm text ≡ true → Each calm (uncontrolled before text)
+unfolding uncontrolled
+uncontrolled_calm before [] e = go (is_lead before)
+  where
+    go : (b : Bool) → Each calm (if b then 194 ∷ [] else [])
+    go true = record { holds = refl }
+    go false = record { holds = refl }
+uncontrolled_calm before (byte ∷ text) e =
+    let at = and_parts (calm byte) (list_all calm text) e in
+    join (join (lead_calm before byte) (after_calm before byte at.0)) (uncontrolled_calm byte text at.1)
+
 pub json_calm : (event : Event) → IsOneLine (json_line event)
 unfolding json_line
-json_calm event = (compact_text (event_value event), refl, every calm (λ byte. 32 ≤ byte) (λ x e. leb-true 32 x e) (compact_text (event_value event)) (text_calm (event_value event)).holds)
+json_calm event =
+    let plain = compact_text (event_value event) in
+    (uncontrolled 0 plain, refl, every calm (λ byte. 32 ≤ byte) (λ x e. leb-true 32 x e) (uncontrolled 0 plain) (uncontrolled_calm 0 plain (text_calm (event_value event)).holds).holds)

@@ -2,6 +2,7 @@
 use Rattle.std.specs.Prelude.{ℕ, List, [], ◌∷◌, ◌++◌, Option, Some, None, codes}
 use Rattle.lsv_base.specs.LogNo.{digits_of}
 use Rattle.lsv_info.specs.Layout.{shown_text, info_members, time_value, exit_members}
+use Rattle.lsv_event.specs.Controls.{uncontrolled}
 use Rattle.lsv_event.specs.Events.{peer_text}
 use Rattle.lsv_event.specs.declared.event.Event.{Event}
 use Rattle.lsv_event.specs.declared.event.Event.TheVariants.{Accept, Reject, Alert, Exit}
@@ -52,6 +53,6 @@ members_of (Exit at peer log exit) =
 abbrev pub event_value : Event → Data
 event_value event = object (member (name_of event) (object (members_of event)) no_members)
 
--- the line of an event as JSON
+-- the line of an event as JSON, its DEL and C1 controls by their numbers
 unfoldable pub json_line : Event → List ℕ
-json_line event = compact_text (event_value event) ++ 10 ∷ []
+json_line event = uncontrolled 0 (compact_text (event_value event)) ++ 10 ∷ []

@@ -1,3 +1,4 @@
+pub mod Controls
 pub mod Dates
 pub mod Escapes
 pub mod Events

@@ -9,6 +9,7 @@ ghost use Rattle.lsv_event.specs.declared.event.Event.TheVariants as events;
 ghost use Rattle.lsv_event.specs.Events.{peer_text};
 ghost use Rattle.lsv_event.specs.JsonLine.{json_line, members_of, name_of, put_log};
 
+use crate::controls::put_uncontrolled;
 use crate::{Event, Peer};
 use lsv_base::{Bytes, LogNo, NoMem, TimeSpec};
 use lsv_info::{
@@ -19,8 +20,9 @@ use std::alloc::Global;
 
 /// The line of an event as JSON, in the style of log.json: a compact object with one member, which is named after the
 /// event. It has `server_time`, `peer`, and `iolog` where there is a log; `info`, and `submit_time` or, of an alert,
-/// `alert_time`; `reason`; and of an exit the members of exit.json. It takes memory in proportion to the event, and so
-/// much time and that of putting the keys of `info` in order.
+/// `alert_time`; `reason`; and of an exit the members of exit.json. DEL and the C1 controls (U+0080 to U+009F) stand by
+/// their numbers, as `\u007f`. It takes memory in proportion to the event, and so much time and that of putting the keys
+/// of `info` in order.
 #[tactic(auto, unfolding(crate::specs::JsonLine::json_line))]
 pub fn json_line(alloc: Global, event: &Event) -> Result<Bytes, NoMem>
     ensures { IfOk result (λ line. line ≡ json_line event.now) }
@@ -29,7 +31,11 @@ pub fn json_line(alloc: Global, event: &Event) -> Result<Bytes, NoMem>
     let mut line = Map::new(alloc);
     let members = members(alloc, event)?;
     put(&mut line, alloc, name(event), Json::Object(members))?;
-    lsv_info::json_line(alloc, &Json::Object(line))
+    let plain = Json::Object(line).to_vec(alloc)?;
+    let mut text = Vec::with_capacity(alloc, plain.len())?;
+    put_uncontrolled(&mut text, &plain)?;
+    text.push(b'\n')?;
+    Ok(Bytes::from_vec(text))
 }
 
 /// What an event is called.

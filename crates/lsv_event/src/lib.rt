@@ -1,6 +1,7 @@
 //! Events of sessions, and their lines: in sudo's style, and as JSON.
 #![tactic(auto)]
 
+mod controls;
 mod date;
 mod escape;
 mod event;

@@ -80,6 +80,10 @@ pub record IsWhole (view : ViewState) (records : List Record) (disk : DiskView) 
   pub count : view.body.count ≡ length records
   pub time : view.body.elapsed ≡ elapsed records
 
+-- the log's last entry counts this many cuts
+abbrev pub HasCuts : ℕ → ℕ → Image → Type 0
+HasCuts n cuts image = (body : Body) × HasEntry (owner_of n) body image × (cuts ≡ body.extra)
+
 -- the log was cut as often as before, and yet its last entry commits fewer bytes of timing than were given
 pub record HasShrunk (view : ViewState) (image : Image) : Type 0 where
   pub body : Body

@@ -3,7 +3,7 @@ ghost use Rattle.lsv_base.specs.Time.{nanos_of};
 ghost use Rattle.lsv_disk.specs.View.{HasOwnCause};
 ghost use Rattle.lsv_disk.specs.Throughout.{Throughout};
 ghost use Rattle.lsv_disk.specs.declared.file.Part.{Part};
-ghost use Rattle.lsv_info.specs.Fitting.{FitsEntry};
+ghost use Rattle.lsv_info.specs.Fitting.{FitsEntry, FitsValue};
 ghost use Rattle.lsv_info.specs.Layout.{head_text};
 ghost use Rattle.lsv_info.specs.Reading.{head_of};
 ghost use Rattle.std.specs.List.{AllByRecursion};
@@ -70,7 +70,8 @@ pub(crate) fn owner_of(number: LogNo) -> Owner
     Owner::Log(number.get())
 }
 
-/// The numbers of a head are of 64 bits, which only their reading shows.
+/// The numbers of a head are of 64 bits, which only their reading shows. A client sends as many as a message holds, so they
+/// are read by loops: a call for each would need as much of the stack.
 fn numbers_fit(head: &Head)
     ensures { AllByRecursion FitsEntry head.now.info.entries }
 {
@@ -80,27 +81,29 @@ fn numbers_fit(head: &Head)
 fn entries_fit(entries: &[Entry])
     ensures { AllByRecursion FitsEntry entries.now }
 {
-    let [first, rest @ ..] = entries else {
-        return;
-    };
-    match &first.value {
+    for entry in entries {
+        value_fits(&entry.value);
+    }
+}
+
+fn value_fits(value: &Value)
+    ensures { FitsValue value.now }
+{
+    match value {
         Value::Num(number) => {
             let _number = *number;
         }
         Value::Nums(numbers) => list_fits(numbers.as_slice()),
         _ => {}
     }
-    entries_fit(rest);
 }
 
 fn list_fits(numbers: &[i64])
     ensures { AllByRecursion (FitsSigned w64) numbers.now }
 {
-    let [first, rest @ ..] = numbers else {
-        return;
-    };
-    let _first = *first;
-    list_fits(rest);
+    for number in numbers {
+        let _number = *number;
+    }
 }
 
 /// The head that a written text reads as.

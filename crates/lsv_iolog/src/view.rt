@@ -21,7 +21,7 @@ ghost use Rattle.lsv_iolog.specs.Damage.{IsViewDamage};
 ghost use Rattle.lsv_iolog.specs.Faults.{IsNextFault, IsOfFiles};
 ghost use Rattle.lsv_iolog.specs.Inner.Scanning.{text_of, IsReading, IsViewOf, AllCounted};
 ghost use Rattle.lsv_iolog.specs.Inner.Judging.{IsBehindLines, AreWhole, HasData, LacksIn, IsWithin, IsEndFault, back_to};
-ghost use Rattle.lsv_iolog.specs.Reading.{committed_text, committed_laid, is_over, AreThere, HasShrunk, HoldsLittle, IsBehind, IsPlaced, IsWhole, IsFaultBehind, IsSoundBehind};
+ghost use Rattle.lsv_iolog.specs.Reading.{committed_text, committed_laid, is_over, AreThere, HasCuts, HasShrunk, HoldsLittle, IsBehind, IsPlaced, IsWhole, IsFaultBehind, IsSoundBehind};
 
 use crate::ViewFault;
 use crate::append::part_of;
@@ -31,8 +31,9 @@ use crate::open::{check_counts, check_streams, read_log_head};
 use crate::pieces::{committed, read_part, read_piece};
 use lsv_base::{Bytes, LogNo};
 use lsv_bundle::{Body, Bundle, BundleFault, Shape, View};
-use lsv_disk::{Disk, Part};
+use lsv_disk::{Disk, FileId, Part};
 use lsv_info::{Exit, Head, InfoFault, read_exit};
+use lsv_journal::Journal;
 use lsv_record::{Record, Shaped, Stream, Tally};
 use std::alloc::Global;
 use std::marker::Model;
@@ -202,6 +203,41 @@ impl LogView {
         self.head = head;
         self.lines.renew(view);
         Ok(Renewed::Same)
+    }
+
+    /// Looks whether the log was cut since: reads its last entry again, and no other file. `Cut` comes exactly if the
+    /// count of cuts is now another, `Absent` exactly if the log has no entry any more. `Disk` comes only if a device
+    /// call on a file of this log failed.
+    pub fn look<D: Disk>(&self, disk: &mut D) -> Result<Renewed, ViewFault>
+        ensures cut { D.tells → IfOk result (λ renewed. (cuts : ℕ) → renewed ≡ Renewed.Cut cuts → HasCuts self.now.number cuts (D.view disk.old).reads × (cuts ≢ self.now.body.extra)) }
+        ensures same { D.tells → IfOk result (λ renewed. renewed ≡ Renewed.Same → HasCuts self.now.number self.now.body.extra (D.view disk.old).reads) }
+        ensures absent { D.tells → IsErrOf result ViewFault.Absent → Replays (D.view disk.old).reads self.now.number None }
+        ensures reads { D.tells → OnlyReads (D.view disk.old) (D.view disk.new) }
+        ensures fault { IfErr result (λ e. (e ≡ ViewFault.Absent) ⊎ (e ≡ ViewFault.Disk)) }
+        ensures cause { HasOwnCause (IsOfLog self.now.number) (IsErrOf result ViewFault.Disk) (D.view disk.old) (D.view disk.new) }
+    {
+        let cuts = last_cuts(disk, self.number)?;
+        if cuts != self.lines.view().body.extra {
+            return Ok(Renewed::Cut(cuts));
+        }
+        Ok(Renewed::Same)
+    }
+}
+
+/// How often a log was cut, by its last entry. `Absent` comes exactly if it has none, `Disk` only if a device call on a
+/// file of it failed.
+fn last_cuts<D: Disk>(disk: &mut D, number: LogNo) -> Result<u64, ViewFault>
+    ensures cuts { D.tells → IfOk result (λ cuts. HasCuts number cuts (D.view disk.old).reads) }
+    ensures absent { D.tells → IsErrOf result ViewFault.Absent → Replays (D.view disk.old).reads number None }
+    ensures reads { D.tells → OnlyReads (D.view disk.old) (D.view disk.new) }
+    ensures fault { IfErr result (λ e. (e ≡ ViewFault.Absent) ⊎ (e ≡ ViewFault.Disk)) }
+    ensures cause { HasOwnCause (IsOfLog number) (IsErrOf result ViewFault.Disk) (D.view disk.old) (D.view disk.new) }
+{
+    let slots = FileId::new(owner_of(number), Part::Slots);
+    match Journal::<89>::view(disk, slots) {
+        Ok(Some(bytes)) => Ok(Body::decode(bytes).extra),
+        Ok(None) => Err(ViewFault::Absent),
+        Err(_) => Err(ViewFault::Disk),
     }
 }
 
