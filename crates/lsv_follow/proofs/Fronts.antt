@@ -1,11 +1,10 @@
 -- Records before those that begin the bytes of a sound log: they begin them too, and nothing is at fault after them.
-use Rattle.std.proofs.Common.{◌≡◌, arith, ℕ, zero, suc, ◌+◌, ◌≤◌, List, [], ◌∷◌, ◌++◌, append_assoc, length, length-append, Some, refl, sym, ap, subst, ◌∙◌}
+use Rattle.std.proofs.Common.{arith, ℕ, zero, suc, ◌≤◌, List, [], ◌∷◌, ◌++◌, append_assoc, length, length-append, ap, subst, ◌∙◌}
 use Rattle.std.specs.Prelude.{All}
 use Rattle.std.proofs.lemmas.List.Elements.{All-cons, All-head, All-nil, All-tail}
 use Rattle.lsv_defs.specs.Pieces.{IsPrefix}
 use Rattle.lsv_bundle.specs.declared.body.Body.{Body}
-use Rattle.lsv_disk.specs.View.{Image}
-use Rattle.lsv_iolog.specs.Reading.{IsFaultBehind, IsSoundBehind}
+use Rattle.lsv_iolog.specs.Reading.{IsSoundBehind}
 use Rattle.lsv_record.specs.declared.laid.Laid.{Laid}
 use Rattle.lsv_record.specs.declared.records.Record.{Record}
 use Rattle.lsv_record.specs.Layout.{Begins, stream_in}
@@ -20,7 +19,7 @@ valid_front (r ∷ front) more h = All-cons IsValid r front (All-head IsValid r 
 prefix_front : (a b text : List ℕ) → IsPrefix (a ++ b) text → IsPrefix a text
 prefix_front a b text (rest, is) = (b ++ rest, is ∙ append_assoc a b rest)
 
-begins_front : (l : Laid) (front more : List Record) → Begins l (front ++ more) → Begins l front
+pub begins_front : (l : Laid) (front more : List Record) → Begins l (front ++ more) → Begins l front
 begins_front l front more begins = record {
   valid = valid_front front more begins.valid;
   time = omega (arith, begins.time, elapsed-append front more);

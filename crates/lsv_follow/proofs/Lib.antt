@@ -1,5 +1,9 @@
 pub mod Causes
 pub mod Ended
-pub mod Follows
 pub mod Fronts
+pub mod Given
 pub mod Looking
+pub mod Looks
+pub mod Played
+pub mod Shown
+pub mod Views

@@ -1,6 +1,7 @@
--- What is put of a log that is followed while nobody writes it, by how its following ended.
-use Rattle.std.specs.Prelude.{◌≡◌, ◌≢◌, ◌⊎◌, ◌≤◌, ℕ, List, [], ◌∷◌, ◌++◌, map, replicate, Some, None, Result, Ok, Err}
+-- What is put of a log that is followed while others write it, by how its following ended.
+use Rattle.std.specs.Prelude.{◌≡◌, ◌≢◌, ◌⊎◌, ◌<◌, ◌≤◌, ◌*◌, ℕ, suc, List, [], ◌∷◌, ◌++◌, length, map, replicate, None, Result, Ok, Err}
 use Rattle.lsv_disk.specs.View.{Image}
+use Rattle.lsv_iolog.specs.Reading.{HasCuts}
 use Rattle.lsv_iolog.specs.Recovered.{Replays}
 use Rattle.lsv_play.specs.Items.{IsPart}
 use Rattle.lsv_play.specs.declared.options.Options.{Options}
@@ -9,9 +10,9 @@ use Rattle.lsv_play.specs.declared.screen.Item.TheVariants.{Wait}
 use Rattle.lsv_play.specs.Playing.{IsNotOpened}
 use Rattle.lsv_play.specs.declared.fault.PlayFault.{PlayFault}
 use Rattle.lsv_play.specs.declared.fault.PlayFault.TheVariants as plays
-use Rattle.lsv_record.specs.Points.{Stored}
 use Rattle.lsv_record.specs.declared.records.Record.{Record}
-use Rattle.lsv_follow.specs.Followed.{followed, pause}
+use Rattle.lsv_follow.specs.Followed.{followed, pause, put_at_acts, quiet_in, records_of}
+use Rattle.lsv_follow.specs.Following.{Finds, HasFaultNext, HasGiven}
 use Rattle.lsv_follow.specs.declared.end.FollowEnd.{FollowEnd}
 use Rattle.lsv_follow.specs.declared.end.FollowEnd.TheVariants as ends
 use Rattle.lsv_follow.specs.declared.follow.Seen.{Seen}
@@ -33,63 +34,78 @@ quiet n = replicate n seen.Nothing
 abbrev pub pauses : ℕ → List Item
 pauses n = replicate n (Wait pause)
 
--- looks at a log that stays as it is: they gave its first records, and n looks found no further one after all were given
-pub record AreFirstLooks (log : Stored) (looks : List Seen) : Type 0 where
-  pub records : List Record
-  pub more : List Record
-  pub n : ℕ
-  pub first : log.records ≡ records ++ more
-  pub looks_are : looks ≡ gave records ++ quiet n
-  pub all_given : n ≢ 0 → more ≡ []
-  pub few : n ≤ most_quiet
+-- the last of these looks found the log's end
+abbrev pub EndsOver : List Seen → Type 0
+EndsOver looks = (front : List Seen) × (looks ≡ front ++ seen.End ∷ [])
 
--- all looks at a log that stays as it is: its records and its end, if it is complete; its records and 36,000 looks that found nothing more, if it isn't; or its first looks
-abbrev pub EndsAt : {T : Type 0} → Stored → Result T FollowEnd → List Seen → Type 0
-EndsAt log (Ok end) looks = (log.exit ≢ None) × (looks ≡ gave log.records ++ seen.End ∷ [])
-EndsAt log (Err ends.Quiet) looks = (log.exit ≡ None) × (looks ≡ gave log.records ++ quiet most_quiet)
-EndsAt log (Err (ends.Fault plays.Disk)) looks = AreFirstLooks log looks
-EndsAt log (Err (ends.Fault plays.Screen)) looks = AreFirstLooks log looks
-EndsAt log (Err (ends.Fault plays.NoMem)) looks = AreFirstLooks log looks
-EndsAt log (Err (ends.Fault plays.Absent)) looks = ⊥
-EndsAt log (Err (ends.Fault (plays.Damaged part))) looks = ⊥
-EndsAt log (Err (ends.Resumed cuts now)) looks = ⊥
+-- these looks don't end the following: the last didn't find the log's end, and fewer than 36,000 in a row found nothing
+pub record IsGoing (looks : List Seen) : Type 0 where
+  pub not_over : EndsOver looks → ⊥
+  pub few : quiet_in 0 looks < most_quiet
 
--- the last looks: the end, or 36,000 that found nothing more; a log that nobody writes is neither cut nor gone
-abbrev pub EndsWith : {T : Type 0} → Result T FollowEnd → List Seen → Type 0
-EndsWith (Ok end) looks = (front : List Seen) × (looks ≡ front ++ seen.End ∷ [])
-EndsWith (Err ends.Quiet) looks = (front : List Seen) × (looks ≡ front ++ quiet most_quiet)
-EndsWith (Err (ends.Resumed cuts now)) looks = ⊥
-EndsWith (Err (ends.Fault plays.Absent)) looks = ⊥
-EndsWith (Err (ends.Fault (plays.Damaged part))) looks = Unit {0}
-EndsWith (Err (ends.Fault plays.Disk)) looks = Unit {0}
-EndsWith (Err (ends.Fault plays.Screen)) looks = Unit {0}
-EndsWith (Err (ends.Fault plays.NoMem)) looks = Unit {0}
+-- the moments of a look after so many others: at the one it reads, and at the next one it is checked that the log wasn't cut
+abbrev pub read_at : List Seen → ℕ
+read_at before = 2 * length before
+
+abbrev pub checked_at : List Seen → ℕ
+checked_at before = suc (2 * length before)
+
+-- a look was made, since those before it didn't end the following; it found what came after the records that they gave, and then the log had as many cuts as at the opening
+pub record IsLook (n cuts : ℕ) (images : ℕ → Image) (before : List Seen) (look : Seen) : Type 0 where
+  pub going : IsGoing before
+  pub finds : Finds n cuts (images (read_at before)) (records_of before) look
+  pub uncut : HasCuts n cuts (images (checked_at before))
+
+-- these are looks at a log, one after another
+abbrev pub AreLooks : ℕ → ℕ → (ℕ → Image) → List Seen → Type 0
+AreLooks n cuts images looks = (before : List Seen) (look : Seen) (after : List Seen) → looks ≡ before ++ look ∷ after → IsLook n cuts images before look
+
+-- how the following ends after these looks: with the log's end; with 36,000 in a row that found nothing; or with one look more that found the log cut, removed, or damaged after the records that were shown
+abbrev pub EndsAt : {T : Type 0} → ℕ → ℕ → (ℕ → Image) → List Seen → Result T FollowEnd → Type 0
+EndsAt n cuts images looks (Ok end) = EndsOver looks
+EndsAt n cuts images looks (Err ends.Quiet) = quiet_in 0 looks ≡ most_quiet
+EndsAt n cuts images looks (Err (ends.Resumed was now)) = IsGoing looks × (was ≡ cuts) × (now ≢ cuts) × (HasCuts n now (images (read_at looks)) ⊎ HasCuts n now (images (checked_at looks)))
+EndsAt n cuts images looks (Err ends.Removed) = IsGoing looks × (Replays (images (read_at looks)) n None ⊎ Replays (images (checked_at looks)) n None)
+EndsAt n cuts images looks (Err (ends.Fault (plays.Damaged part))) = IsGoing looks × HasFaultNext n cuts (images (read_at looks)) (records_of looks) part
+EndsAt n cuts images looks (Err (ends.Fault plays.Absent)) = ⊥
+EndsAt n cuts images looks (Err (ends.Fault plays.Resumed)) = ⊥
+EndsAt n cuts images looks (Err (ends.Fault plays.Disk)) = IsGoing looks
+EndsAt n cuts images looks (Err (ends.Fault plays.Screen)) = Unit {0}
+EndsAt n cuts images looks (Err (ends.Fault plays.NoMem)) = IsGoing looks
 
 -- what is put for looks: all, or a first part if the screen failed
-abbrev pub PutsLooks : {T : Type 0} → Options → Result T FollowEnd → List Seen → List Item → Type 0
-PutsLooks o (Err (ends.Fault plays.Screen)) looks put = IsPart put (followed o looks)
-PutsLooks o (Ok end) looks put = put ≡ followed o looks
-PutsLooks o (Err ends.Quiet) looks put = put ≡ followed o looks
-PutsLooks o (Err (ends.Resumed cuts now)) looks put = put ≡ followed o looks
-PutsLooks o (Err (ends.Fault plays.Absent)) looks put = put ≡ followed o looks
-PutsLooks o (Err (ends.Fault (plays.Damaged part))) looks put = put ≡ followed o looks
-PutsLooks o (Err (ends.Fault plays.Disk)) looks put = put ≡ followed o looks
-PutsLooks o (Err (ends.Fault plays.NoMem)) looks put = put ≡ followed o looks
+abbrev pub PutsLooks : {T : Type 0} → Options → List Seen → List Item → Result T FollowEnd → Type 0
+PutsLooks o looks put (Ok end) = put ≡ followed o looks
+PutsLooks o looks put (Err ends.Quiet) = put ≡ followed o looks
+PutsLooks o looks put (Err (ends.Resumed was now)) = put ≡ followed o looks
+PutsLooks o looks put (Err ends.Removed) = put ≡ followed o looks
+PutsLooks o looks put (Err (ends.Fault plays.Screen)) = IsPart put (followed o looks)
+PutsLooks o looks put (Err (ends.Fault (plays.Damaged part))) = put ≡ followed o looks
+PutsLooks o looks put (Err (ends.Fault plays.Absent)) = put ≡ followed o looks
+PutsLooks o looks put (Err (ends.Fault plays.Resumed)) = put ≡ followed o looks
+PutsLooks o looks put (Err (ends.Fault plays.Disk)) = put ≡ followed o looks
+PutsLooks o looks put (Err (ends.Fault plays.NoMem)) = put ≡ followed o looks
 
--- what is put of an opened log is put for looks at it; if the disk holds such a log, the looks are those at it
-pub record FollowsLooks {T : Type 0} (Holds : Stored → Type 0) (o : Options) (answer : Result T FollowEnd) (put : List Item) : Type 0 where
+-- the log was opened, with this many cuts, and what is put is put for looks at it; each of them was shown before the act after it
+pub record FollowsLooks {T : Type 0} (o : Options) (n : ℕ) (images : ℕ → Image) (saw : List (List Item)) (answer : Result T FollowEnd) (put : List Item) : Type 0 where
+  pub cuts : ℕ
   pub looks : List Seen
-  pub puts : PutsLooks o answer looks put
-  pub ends : EndsWith answer looks
-  pub stored : (log : Stored) → Holds log → EndsAt log answer looks
+  pub opened : HasGiven n cuts (images 0) []
+  pub are : AreLooks n cuts images looks
+  pub ends : EndsAt n cuts images looks answer
+  pub puts : PutsLooks o looks put answer
+  -- at their acts the others saw what was put by then, and before the last look they had acted as often
+  pub acts : (rest : List (List Item)) × (put_at_acts o [] looks ≡ saw ++ rest)
+  pub enough : 2 * length looks ≤ suc (length saw)
 
 -- a log isn't opened, as in play
 abbrev pub IsNotFollowed : {T : Type 0} → ℕ → Image → Result T FollowEnd → Type 0
 IsNotFollowed n image (Ok end) = ⊥
 IsNotFollowed n image (Err ends.Quiet) = ⊥
-IsNotFollowed n image (Err (ends.Resumed cuts now)) = ⊥
+IsNotFollowed n image (Err (ends.Resumed was now)) = ⊥
+IsNotFollowed n image (Err ends.Removed) = ⊥
 IsNotFollowed n image (Err (ends.Fault fault)) = let answer : Result (Unit {0}) PlayFault = Err fault in IsNotOpened n image answer
 
--- what is put of the log of this number, as an image of the disk has it: nothing if it isn't opened
-abbrev pub Follows : {T : Type 0} → Options → ℕ → Image → Result T FollowEnd → List Item → Type 0
-Follows o n image answer put = (IsNotFollowed n image answer × (put ≡ [])) ⊎ FollowsLooks (λ log. Replays image n (Some log)) o answer put
+-- what is put of the log of this number, if the disk reads so at these moments, and the others saw this: nothing if it isn't opened, and else what is put for the looks at it
+abbrev pub Follows : {T : Type 0} → Options → ℕ → (ℕ → Image) → List (List Item) → Result T FollowEnd → List Item → Type 0
+Follows o n images saw answer put = (IsNotFollowed n (images 0) answer × (put ≡ []) × (saw ≡ [])) ⊎ FollowsLooks o n images saw answer put

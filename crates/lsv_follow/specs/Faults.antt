@@ -24,12 +24,24 @@ IsLookFault (Log views.Disk) = Unit {0}
 IsLookFault (Log views.NoMem) = ⊥
 IsLookFault NoMem = Unit {0}
 
+-- the faults of a check: the log was cut, or it is absent, or a device call failed
+abbrev pub IsCheckFault : FollowFault → Type 0
+IsCheckFault (Resumed seen now) = Unit {0}
+IsCheckFault (Log views.Absent) = Unit {0}
+IsCheckFault (Log (views.Damaged part)) = ⊥
+IsCheckFault (Log views.Disk) = Unit {0}
+IsCheckFault (Log views.NoMem) = ⊥
+IsCheckFault NoMem = ⊥
+
 -- a log isn't opened, as in play
 abbrev pub of_opening : ViewFault → FollowEnd
 of_opening fault = ends.Fault (play_faults.of_log fault)
 
--- a look failed: the log was cut, or else as in play
+-- a look failed: the log was cut, or is gone, or else as in play
 abbrev pub of_look : FollowFault → FollowEnd
 of_look (Resumed seen now) = ends.Resumed seen now
-of_look (Log fault) = ends.Fault (play_faults.of_log fault)
+of_look (Log views.Absent) = ends.Removed
+of_look (Log (views.Damaged part)) = ends.Fault (plays.Damaged part)
+of_look (Log views.Disk) = ends.Fault plays.Disk
+of_look (Log views.NoMem) = ends.Fault plays.NoMem
 of_look NoMem = ends.Fault plays.NoMem

@@ -2,3 +2,4 @@ pub mod Ending
 pub mod Faults
 pub mod Followed
 pub mod Following
+pub mod Others

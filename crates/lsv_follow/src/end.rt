@@ -15,6 +15,9 @@ pub enum FollowEnd {
     /// The log was cut since it was opened: it had `seen` cuts then, and has `now`.
     #[error("the log was cut while it was followed")]
     Resumed { seen: u64, now: u64 },
+    /// The log was removed since it was opened.
+    #[error("the log was removed while it was followed")]
+    Removed,
     /// For an hour the log had no further record, and it isn't complete.
     #[error("the log stayed quiet")]
     Quiet,
@@ -37,7 +40,12 @@ impl From<FollowFault> for FollowEnd {
     fn from(fault: FollowFault) -> Self {
         match fault {
             FollowFault::Resumed { seen, now } => FollowEnd::Resumed { seen, now },
-            FollowFault::Log(fault) => FollowEnd::Fault(PlayFault::from(fault)),
+            FollowFault::Log(ViewFault::Absent) => FollowEnd::Removed,
+            FollowFault::Log(ViewFault::Damaged(part)) => {
+                FollowEnd::Fault(PlayFault::Damaged(part))
+            }
+            FollowFault::Log(ViewFault::Disk) => FollowEnd::Fault(PlayFault::Disk),
+            FollowFault::Log(ViewFault::NoMem) => FollowEnd::Fault(PlayFault::NoMem),
             FollowFault::NoMem => FollowEnd::Fault(PlayFault::NoMem),
         }
     }

@@ -4,12 +4,12 @@ ghost use Rattle.lsv_disk.specs.Throughout.{OnlyReads};
 ghost use Rattle.lsv_disk.specs.declared.file.Part.{Part};
 ghost use Rattle.lsv_iolog.specs.declared.fault.ViewFault.{ViewFault};
 ghost use Rattle.lsv_iolog.specs.Damage.{IsViewDamage};
-ghost use Rattle.lsv_iolog.specs.Reading.{HoldsLittle, IsBehind};
+ghost use Rattle.lsv_iolog.specs.Reading.{HasCuts, HoldsLittle};
 ghost use Rattle.lsv_iolog.specs.Recovered.{IsOfLog, Replays};
 ghost use Rattle.lsv_record.specs.declared.records.Record.{Record};
 ghost use Rattle.lsv_record.specs.Points.{Stored};
-ghost use Rattle.lsv_follow.specs.Faults.{IsLookFault};
-ghost use Rattle.lsv_follow.specs.Following.{HasCuts, HasGoneOn, HasShown, IsLookDamage, IsRenewed, Sees, WasCut, cuts_seen};
+ghost use Rattle.lsv_follow.specs.Faults.{IsCheckFault, IsLookFault};
+ghost use Rattle.lsv_follow.specs.Following.{HasCounted, HasFound, HasShown, IsLookDamage, IsRenewed, WasCut, cuts_seen};
 
 use crate::FollowFault;
 use lsv_base::LogNo;
@@ -45,8 +45,7 @@ impl Follow {
     /// of this log failed, `NoMem` if memory ran out.
     pub fn open<D: Disk>(alloc: Global, disk: &mut D, number: LogNo) -> Result<Follow, ViewFault>
         ensures number { IfOk result (λ f. f.view.number ≡ number) }
-        ensures cuts { D.tells → IfOk result (λ f. HasCuts number (cuts_seen f.view) (D.view disk.old).reads) }
-        ensures shows { D.tells → (log : Stored) → Replays (D.view disk.old).reads number (Some log) → IfOk result (λ f. HasShown f.view [] log) }
+        ensures shows { D.tells → IfOk result (λ f. HasShown f.view [] (D.view disk.old).reads) }
         ensures little { IfOk result (λ f. HoldsLittle f.view) }
         ensures absent { D.tells → IsErrOf result ViewFault.Absent → Replays (D.view disk.old).reads number None }
         ensures damaged { D.tells → (part : Part) → IsErrOf result (ViewFault.Damaged part) → IsViewDamage number part (D.view disk.old).reads }
@@ -58,15 +57,14 @@ impl Follow {
         Ok(Follow { view })
     }
 
-    /// Looks at the log, which may have become a later state since the last look, and gives its next record. `Nothing`
-    /// if all were shown and the log isn't complete, `End` if all were shown and it is. `Resumed` if it was cut since it
-    /// was opened. `Log` if it is absent or damaged, or if a device call on a file of it failed. `NoMem` if memory ran
-    /// out. After a fault the same records count as shown.
+    /// Looks at the log, which others may have written since the last look, and gives its next record. `Nothing` if all
+    /// were shown and the log isn't complete, `End` if all were shown and it is. `Resumed` if it was cut since it was
+    /// opened. `Log` if it is absent or damaged, or if a device call on a file of it failed. `NoMem` if memory ran out.
+    /// After a fault the same records count as shown. What a look says of a stored log: the laws of this crate.
     pub fn next<D: Disk>(&mut self, disk: &mut D) -> Result<Seen, FollowFault>
-        ensures sees { D.tells → (was now : Stored) (shown : List Record) → HasGoneOn self.old.view shown was now (D.view disk.old).reads → IfOk result (λ seen. Sees seen self.new.view shown now) }
-        ensures stays { D.tells → (was now : Stored) (shown : List Record) → HasGoneOn self.old.view shown was now (D.view disk.old).reads → OnErr result (HasShown self.new.view shown was) }
-        ensures undamaged { D.tells → (was now : Stored) (shown : List Record) → HasGoneOn self.old.view shown was now (D.view disk.old).reads → (fault : ViewFault) → IsErrOf result (FollowFault.Log fault) → fault ≡ ViewFault.Disk }
-        ensures uncut { D.tells → (cuts : ℕ) → HasCuts self.old.view.number cuts (D.view disk.old).reads → IfOk result (λ _. cuts ≡ cuts_seen self.old.view) }
+        ensures finds { D.tells → (shown : List Record) → HasShown self.old.view shown (D.view disk.old).reads → IfOk result (HasFound self.old.view self.new.view (D.view disk.old).reads shown) }
+        ensures stays { D.tells → (shown : List Record) → HasShown self.old.view shown (D.view disk.old).reads → OnErr result (HasCounted self.new.view shown) }
+        ensures uncut { D.tells → OnOk result (HasCuts self.old.view.number (cuts_seen self.old.view) (D.view disk.old).reads) }
         ensures resumed { D.tells → (seen now : ℕ) → IsErrOf result (FollowFault.Resumed seen now) → WasCut self.old.view seen now (D.view disk.old).reads }
         ensures absent { D.tells → IsErrOf result (FollowFault.Log ViewFault.Absent) → Replays (D.view disk.old).reads self.old.view.number None }
         ensures damaged { D.tells → (part : Part) → IsErrOf result (FollowFault.Log (ViewFault.Damaged part)) → IsLookDamage self.old.view part (D.view disk.old) }
@@ -86,9 +84,7 @@ impl Follow {
     /// Takes the last entry of the log, if it wasn't cut.
     fn renew<D: Disk>(&mut self, disk: &mut D) -> Result<(), FollowFault>
         ensures renewed { D.tells → OnOk result (IsRenewed self.old.view self.new.view (D.view disk.old)) }
-        ensures behind { D.tells → (was now : Stored) (shown : List Record) → HasGoneOn self.old.view shown was now (D.view disk.old).reads → OnOk result (IsBehind self.new.view shown (D.view disk.new)) }
         ensures unchanged { OnErr result (self.new ≡ self.old) }
-        ensures undamaged { D.tells → (was now : Stored) (shown : List Record) → HasGoneOn self.old.view shown was now (D.view disk.old).reads → (fault : ViewFault) → IsErrOf result (FollowFault.Log fault) → fault ≡ ViewFault.Disk }
         ensures resumed { D.tells → (seen now : ℕ) → IsErrOf result (FollowFault.Resumed seen now) → WasCut self.old.view seen now (D.view disk.old).reads }
         ensures absent { D.tells → IsErrOf result (FollowFault.Log ViewFault.Absent) → Replays (D.view disk.old).reads self.old.view.number None }
         ensures damaged { D.tells → (part : Part) → IsErrOf result (FollowFault.Log (ViewFault.Damaged part)) → IsLookDamage self.old.view part (D.view disk.old) }
@@ -105,6 +101,23 @@ impl Follow {
                 now,
             }),
         }
+    }
+
+    /// Looks whether the log was cut since it was opened, and reads nothing else of it. `Resumed` if it was, `Log` if it
+    /// is absent or a device call on a file of it failed. What a look found may be shown after this one.
+    pub fn check<D: Disk>(&self, disk: &mut D) -> Result<(), FollowFault>
+        ensures uncut { D.tells → OnOk result (HasCuts self.now.view.number (cuts_seen self.now.view) (D.view disk.old).reads) }
+        ensures resumed { D.tells → (seen now : ℕ) → IsErrOf result (FollowFault.Resumed seen now) → WasCut self.now.view seen now (D.view disk.old).reads }
+        ensures absent { D.tells → IsErrOf result (FollowFault.Log ViewFault.Absent) → Replays (D.view disk.old).reads self.now.view.number None }
+        ensures reads { D.tells → OnlyReads (D.view disk.old) (D.view disk.new) }
+        ensures fault { IfErr result IsCheckFault }
+        ensures cause { HasOwnCause (IsOfLog self.now.view.number) (IsErrOf result (FollowFault.Log ViewFault.Disk)) (D.view disk.old) (D.view disk.new) }
+    {
+        let Renewed::Cut(now) = self.view.look(disk)? else {
+            return Ok(());
+        };
+        let seen = self.view.body().extra;
+        Err(FollowFault::Resumed { seen, now })
     }
 
     /// The answer if all records were shown.

@@ -30,7 +30,7 @@ use Rattle.lsv_play.specs.Schedule.{play}
 use Rattle.lsv_play.proofs.Parts.{part_of_more, part_whole, play_append}
 use Rattle.lsv_play.specs.Playing.{IsOpened, Plays, PlaysRecords, laid_at, text_at}
 use Rattle.lsv_play.specs.declared.fault.PlayFault.{PlayFault}
-use Rattle.lsv_play.specs.declared.fault.PlayFault.TheVariants.{Absent, Damaged, Disk, Screen, NoMem}
+use Rattle.lsv_play.specs.declared.fault.PlayFault.TheVariants.{Absent, Damaged, Resumed, Disk, Screen, NoMem}
 
 -- ---- the bytes that are committed are the log's
 
@@ -88,7 +88,7 @@ some_of_all l all rs laid begins begun (inl (more, e)) = (more, e)
 some_of_all l all rs laid begins begun (inr ([], e)) = ([], sym (append-nil all) ∙ (sym e ∙ sym (append-nil rs)))
 some_of_all l all rs laid begins begun (inr (r ∷ more, e)) = absurd (no_more l all r more laid (subst (Begins l) e begun))
 
-play_part : (o : Options) (put : List Item) (rs more all : List Record) → all ≡ rs ++ more → IsPart put (play o rs) → IsPart put (play o all)
+pub play_part : (o : Options) (put : List Item) (rs more all : List Record) → all ≡ rs ++ more → IsPart put (play o rs) → IsPart put (play o all)
 play_part o put rs more all e part = subst (IsPart put) (sym (ap (play o) e ∙ play_append o rs more)) (part_of_more put (play o rs) (play o more) part)
 
 first_part : (o : Options) (l : Laid) (put : List Item) (all rs : List Record) → IsLayout l all → Begins l all → Begins l rs → IsPart put (play o rs) → IsPart put (play o all)
@@ -104,6 +104,7 @@ records_part o l body (Err Disk) put all laid begins is = first_part o l put all
 records_part o l body (Err Screen) put all laid begins is = first_part o l put all is.0 laid begins is.1.begins is.2
 records_part o l body (Err NoMem) put all laid begins is = first_part o l put all is.0 laid begins is.1.begins is.2
 records_part o l body (Err Absent) put all laid begins is = absurd is
+records_part o l body (Err Resumed) put all laid begins is = absurd is
 
 -- ---- the law
 
@@ -121,3 +122,7 @@ stored_whole o n image end put log holds (inr is) =
 pub stored_there : (T : Type 0) (o : Options) (n : ℕ) (image : Image) (put : List Item) (log : Stored) → Replays image n (Some log) → Plays {T = T} o n image (Err Absent) put → ⊥
 stored_there T o n image put log holds (inl (absent, none)) = none_some (encoded holds.entry.body) (sym absent ∙ holds.holds.last)
 stored_there T o n image put log holds (inr is) = is.records
+
+pub played_uncut : (T : Type 0) (o : Options) (n : ℕ) (image : Image) (put : List Item) → Plays {T = T} o n image (Err Resumed) put → ⊥
+played_uncut T o n image put (inl (cut, none)) = cut
+played_uncut T o n image put (inr is) = is.records

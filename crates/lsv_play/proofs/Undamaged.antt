@@ -49,7 +49,7 @@ no_first owner image lens [] part each short = short
 no_first owner image lens (first ∷ parts) part each (inl short) = each.0 short.1
 no_first owner image lens (first ∷ parts) part each (inr short) = no_first owner image lens parts part each.1 short.1
 
-not_short : (file : Option (List ℕ)) (prefix : List ℕ) (n : ℕ) → HasPrefix prefix file → length prefix ≡ n → IsShort file n → ⊥
+pub not_short : (file : Option (List ℕ)) (prefix : List ℕ) (n : ℕ) → HasPrefix prefix file → length prefix ≡ n → IsShort file n → ⊥
 not_short None prefix n is same short = is
 not_short (Some bytes) prefix n is same short = let whole = ap length is.1 in omega (arith, whole, length-append prefix is.0, same, short)
 

@@ -1,3 +1,5 @@
+pub mod Ahead
+pub mod Beside
 pub mod Faults
 pub mod Items
 pub mod MemScreen

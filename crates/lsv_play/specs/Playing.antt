@@ -22,7 +22,7 @@ use Rattle.lsv_play.specs.declared.screen.Item.{Item}
 use Rattle.lsv_play.specs.Items.{IsPart}
 use Rattle.lsv_play.specs.Schedule.{play}
 use Rattle.lsv_play.specs.declared.fault.PlayFault.{PlayFault}
-use Rattle.lsv_play.specs.declared.fault.PlayFault.TheVariants.{Absent, Damaged, Disk, Screen, NoMem}
+use Rattle.lsv_play.specs.declared.fault.PlayFault.TheVariants.{Absent, Damaged, Resumed, Disk, Screen, NoMem}
 
 -- the bytes of a part that an entry of a log commits, in an image of the disk
 abbrev pub text_at : ℕ → Body → Image → Part → List ℕ
@@ -58,7 +58,7 @@ pub record AreBeforeFault (l : Laid) (body : Body) (part : Part) (records : List
 abbrev pub PlaysSome : Options → Laid → Body → List Item → Type 0
 PlaysSome o l body put = (records : List Record) × AreGiven l body records × IsPart put (play o records)
 
--- what is shown of a log with this entry and these bytes: all at the end, all before a fault, and else a first part
+-- what is shown of a log with this entry and these bytes: all at the end, all before a fault, and else a first part; it isn't cut, nor gone, while nobody writes it
 abbrev pub PlaysRecords : {T : Type 0} → Options → Laid → Body → Result T PlayFault → List Item → Type 0
 PlaysRecords o l body (Ok end) put = (records : List Record) × AreAll l body records × (put ≡ play o records)
 PlaysRecords o l body (Err (Damaged part)) put = (records : List Record) × AreBeforeFault l body part records × (put ≡ play o records)
@@ -66,6 +66,7 @@ PlaysRecords o l body (Err Disk) put = PlaysSome o l body put
 PlaysRecords o l body (Err Screen) put = PlaysSome o l body put
 PlaysRecords o l body (Err NoMem) put = PlaysSome o l body put
 PlaysRecords o l body (Err Absent) put = ⊥
+PlaysRecords o l body (Err Resumed) put = ⊥
 
 -- a log isn't opened: it is absent, or a file is absent or short or its head no head, or a read failed, or memory ran out
 abbrev pub IsNotOpened : {T : Type 0} → ℕ → Image → Result T PlayFault → Type 0
@@ -73,6 +74,7 @@ IsNotOpened n image (Ok end) = ⊥
 IsNotOpened n image (Err Absent) = Replays image n None
 IsNotOpened n image (Err (Damaged part)) = IsViewDamage n part image
 IsNotOpened n image (Err Disk) = Unit {0}
+IsNotOpened n image (Err Resumed) = ⊥
 IsNotOpened n image (Err Screen) = ⊥
 IsNotOpened n image (Err NoMem) = Unit {0}
 

@@ -2,7 +2,7 @@ ghost use Rattle.std.specs.Prelude.{◌≡◌};
 ghost use Rattle.lsv_play.specs.Faults.{of_log};
 ghost use Rattle.lsv_play.specs.declared.fault.PlayFault.TheVariants as faults;
 
-use lsv_base::SinkFault;
+use lsv_base::{NoMem, SinkFault};
 use lsv_disk::Part;
 use lsv_iolog::ViewFault;
 use thiserror::Error;
@@ -16,6 +16,9 @@ pub enum PlayFault {
     /// This part of the log is at fault.
     #[error("the log is damaged")]
     Damaged(Part),
+    /// The log was cut since it was opened.
+    #[error("the log was cut while it was played")]
+    Resumed,
     /// A device call on a file of the log failed.
     #[error("a call on a file of the log failed")]
     Disk,
@@ -45,5 +48,13 @@ impl From<SinkFault> for PlayFault {
 
     fn from(_: SinkFault) -> Self {
         PlayFault::Screen
+    }
+}
+
+impl From<NoMem> for PlayFault {
+    ghost from_gives = { λ _ given. given ≡ faults.NoMem };
+
+    fn from(_: NoMem) -> Self {
+        PlayFault::NoMem
     }
 }

@@ -1,5 +1,5 @@
 -- Logs that are listed one by one, and what is put of them by the end.
-use Rattle.std.proofs.Common.{◌≡◌, ◌∙◌, ◌++◌, inl, inr, ℕ, suc, ◌+◌, ◌≤◌, List, [], ◌∷◌, Option, Some, None, Result, Ok, Err, length, refl, sym, ap, subst, append-nil, append_assoc, arith}
+use Rattle.std.proofs.Common.{◌≡◌, ◌∙◌, ◌++◌, inl, inr, ℕ, zero, suc, ◌+◌, ◌-◌, ◌≤◌, List, [], ◌∷◌, Option, Some, None, Result, Ok, Err, length, refl, sym, ap, subst, append-nil, append_assoc, arith}
 use Rattle.std.specs.Option.{option_or}
 use Rattle.lsv_disk.specs.declared.file.FileId.{FileId}
 use Rattle.lsv_disk.specs.declared.file.Part.{Part}
@@ -62,6 +62,23 @@ listing_starts tells shows e disk shown fails now = record {
   listed = λ told searched steps. ([], λ told_too. sym (append-nil shown), record { found = []; are = tt; count = refl; put_is = refl; first_is = refl });
 }
 
+option_none : {A : Type 0} (o : Option A) → option_or o None ≡ o
+option_none None = refl
+option_none (Some x) = refl
+
+-- d further numbers without a log
+listed_gap : (searched : Option Expression) (image : Image) (n d : ℕ) (first : Option Part) (put : List Item) → ((k : ℕ) → n + 1 ≤ k → k ≤ n + d → Replays image k None) → ListedTo searched image n first put → ListedTo searched image (n + d) first put
+listed_gap searched image n zero first put absent to = subst (λ (k : ℕ). ListedTo searched image k first put) (let e : n ≡ n + 0 = omega arith in e) to
+listed_gap searched image n (suc d) first put absent to =
+    let so_far = listed_gap searched image n d first put (λ k from within. absent k from (omega (arith, within))) to in
+    record {
+      found = Nowhere ∷ so_far.found;
+      are = (absent (suc (length so_far.found)) (omega (arith, so_far.count)) (omega (arith, so_far.count)), so_far.are);
+      count = omega (arith, so_far.count);
+      put_is = so_far.put_is ∙ sym (append-nil (listing searched so_far.found));
+      first_is = so_far.first_is ∙ sym (option_none (first_damage so_far.found));
+    }
+
 -- the listing with one log more
 listed_more : (searched : Option Expression) (image : Image) (n number : ℕ) (first damage : Option Part) (put more : List Item) → ListedTo searched image n first put → number ≡ n + 1 → ListsOne searched image number (Ok damage) more
     → ListedTo searched image (n + 1) (option_or first damage) (put ++ more)
@@ -106,6 +123,29 @@ cut_of searched image n number last first put more (faults.Damaged part) to next
 cut_of searched image n number last first put more faults.Disk to next within one = listed_cut searched image n number last first put more to next within one
 cut_of searched image n number last first put more faults.Screen to next within one = listed_cut searched image n number last first put more to next within one
 cut_of searched image n number last first put more faults.NoMem to next within one = listed_cut searched image n number last first put more to next within one
+
+-- numbers up to m are passed over, since none of them has a log
+pub listing_passes : (tells shows : Type 0) (e : List Step) (n m : ℕ) (first : Option Part) (old now : DiskView) (before shown : List Item) (failed fails : ℕ) → IsListing tells shows e n first old now before shown failed fails → n ≤ m
+    → (tells → (k : ℕ) → n + 1 ≤ k → k ≤ m → Replays now.reads k None) → IsListing tells shows e m first old now before shown failed fails
+listing_passes tells shows e n m first old now before shown failed fails is on absent = record {
+  disk = is.disk;
+  screen = is.screen;
+  reads = is.reads;
+  listed = λ told searched steps.
+      let to = is.listed told searched steps in
+      let sum : n + (m - n) ≡ m = omega (arith, on) in (
+        to.0,
+        to.1,
+        subst (λ (k : ℕ). ListedTo searched old.reads k first to.0) sum
+            (listed_gap searched old.reads n (m - n) first to.0
+            (λ k from within. subst (λ (image : Image). Replays image k None) (same_image old now (is.reads told)) (absent told k from (omega (arith, within, sum)))) to.2),
+      );
+}
+
+-- the same number
+pub listing_done : (tells shows : Type 0) (e : List Step) (n m : ℕ) (first : Option Part) (old now : DiskView) (before shown : List Item) (failed fails : ℕ) → IsListing tells shows e n first old now before shown failed fails → n ≡ m
+    → IsListing tells shows e m first old now before shown failed fails
+listing_done tells shows e n m first old now before shown failed fails is same = subst (λ (k : ℕ). IsListing tells shows e k first old now before shown failed fails) same is
 
 -- what one call on a log promises
 abbrev pub OneListed : (tells shows : Type 0) → List Step → ℕ → Result (Option Part) ListFault → DiskView → List Item → List Item → Type 0

@@ -1,5 +1,5 @@
 -- What a run of the program comes to.
-use Rattle.std.proofs.Common.{◌≡◌, ◌∙◌, inl, inr, ℕ, ◌≤◌, List, Option, Some, None, Result, Ok, Err, Bool, true, false, refl, sym, ap, subst, arith}
+use Rattle.std.proofs.Common.{◌≡◌, ◌∙◌, inl, inr, ℕ, ◌≤◌, List, [], Option, Some, None, Result, Ok, Err, Bool, true, false, refl, sym, ap, subst, append-nil, ◌++◌, arith}
 use Rattle.std.proofs.Math.Path.{fun_ext}
 use Rattle.std.specs.List.{list_all}
 use Rattle.std.specs.Str.{IsUtf8, is_utf8}
@@ -14,6 +14,8 @@ use Rattle.lsv_replay.specs.declared.fault.ListFault.{ListFault}
 use Rattle.lsv_replay.specs.declared.fault.ListFault.TheVariants as lists
 use Rattle.lsv_replay.specs.Numbers.{IsListed}
 use Rattle.lsv_play.specs.declared.screen.Item.{Item}
+use Rattle.lsv_follow.specs.Followed.{seen_from}
+use Rattle.lsv_follow.specs.Others.{IsReadBeside}
 use Rattle.lsv_follow.specs.declared.end.FollowEnd.{FollowEnd}
 use Rattle.lsv_follow.specs.declared.end.FollowEnd.TheVariants as ends
 use Rattle.lsv_play.specs.declared.fault.PlayFault.{PlayFault}
@@ -24,11 +26,11 @@ use Rattle.lsv_replay_args.specs.declared.request.Task.{Task}
 use Rattle.lsv_replay_args.specs.declared.request.Task.TheVariants as tasks
 use Rattle.lsv_replay_args.specs.Request.{Asked, Follow, Manner, Play, Search, dir_asked}
 use Rattle.lsv_replay_args.specs.Request as requests
-use Rattle.lsv_replay.specs.Replay.{Asks, Does, HasWords, IsOnlyRead, IsSoundTask, IsUsage}
+use Rattle.lsv_replay.specs.Replay.{Asks, AsksToFollow, Does, HasWords, IsOnlyRead, IsOnlyReadBeside, IsSoundTask, IsUsage}
 use Rattle.lsv_replay.specs.Status.{of_following, of_listing, of_playing}
-use Rattle.lsv_replay.specs.Tasks.{IsOfTask}
+use Rattle.lsv_replay.specs.Tasks.{IsOfTask, IsToFollow}
 use Rattle.lsv_replay.specs.declared.status.ReplayStatus.{ReplayStatus}
-use Rattle.lsv_replay.specs.declared.status.ReplayStatus.TheVariants.{Shown, Usage, BadExpression, Damaged, ReadFault, WriteFault, Resumed, Absent, NoMem, Quiet}
+use Rattle.lsv_replay.specs.declared.status.ReplayStatus.TheVariants.{Shown, Usage, BadExpression, Damaged, ReadFault, WriteFault, Resumed, Removed, Absent, NoMem, Quiet}
 
 -- ---- statuses
 
@@ -39,16 +41,19 @@ play_status dir manner id n (Err (plays.Damaged part)) is = (n, is)
 play_status dir manner id n (Err plays.Disk) is = (n, is)
 play_status dir manner id n (Err plays.Screen) is = (n, is)
 play_status dir manner id n (Err plays.NoMem) is = tt
+play_status dir manner id n (Err plays.Resumed) is = (n, is)
 
 pub follow_status : {T : Type 0} (dir : List ℕ) (manner : Manner) (id : List ℕ) (n : ℕ) (r : Result T FollowEnd) → log_no_in id ≡ Some n → IsOfTask (Follow dir manner id) (of_following r)
 follow_status dir manner id n (Ok end) is = (n, is)
 follow_status dir manner id n (Err (ends.Resumed seen now)) is = (n, is)
 follow_status dir manner id n (Err ends.Quiet) is = (n, is)
+follow_status dir manner id n (Err ends.Removed) is = (n, is)
 follow_status dir manner id n (Err (ends.Fault plays.Absent)) is = tt
 follow_status dir manner id n (Err (ends.Fault (plays.Damaged part))) is = (n, is)
 follow_status dir manner id n (Err (ends.Fault plays.Disk)) is = (n, is)
 follow_status dir manner id n (Err (ends.Fault plays.Screen)) is = (n, is)
 follow_status dir manner id n (Err (ends.Fault plays.NoMem)) is = tt
+follow_status dir manner id n (Err (ends.Fault plays.Resumed)) is = (n, is)
 
 pub list_status : {T : Type 0} (dir : List ℕ) (words : List (List ℕ)) (searched : Option Expression) (r : Result T ListFault) → IsSearch words searched → IsOfTask (Search dir words) (of_listing r)
 list_status dir words searched (Ok end) is = (searched, is)
@@ -65,6 +70,7 @@ play_disk (Err (plays.Damaged part)) s e is = absurd (cc)
 play_disk (Err plays.Disk) s e is = refl
 play_disk (Err plays.Screen) s e is = absurd (cc)
 play_disk (Err plays.NoMem) s e is = absurd (cc)
+play_disk (Err plays.Resumed) s e is = absurd (cc)
 
 pub play_screen : {T : Type 0} (r : Result T PlayFault) (s : ReplayStatus) → s ≡ of_playing r → s ≡ WriteFault → r ≡ Err plays.Screen
 play_screen (Ok end) s e is = absurd (cc)
@@ -73,26 +79,31 @@ play_screen (Err (plays.Damaged part)) s e is = absurd (cc)
 play_screen (Err plays.Disk) s e is = absurd (cc)
 play_screen (Err plays.Screen) s e is = refl
 play_screen (Err plays.NoMem) s e is = absurd (cc)
+play_screen (Err plays.Resumed) s e is = absurd (cc)
 
 pub follow_disk : {T : Type 0} (r : Result T FollowEnd) (s : ReplayStatus) → s ≡ of_following r → s ≡ ReadFault → r ≡ Err (ends.Fault plays.Disk)
 follow_disk (Ok end) s e is = absurd (cc)
 follow_disk (Err (ends.Resumed seen now)) s e is = absurd (cc)
 follow_disk (Err ends.Quiet) s e is = absurd (cc)
+follow_disk (Err ends.Removed) s e is = absurd (cc)
 follow_disk (Err (ends.Fault plays.Absent)) s e is = absurd (cc)
 follow_disk (Err (ends.Fault (plays.Damaged part))) s e is = absurd (cc)
 follow_disk (Err (ends.Fault plays.Disk)) s e is = refl
 follow_disk (Err (ends.Fault plays.Screen)) s e is = absurd (cc)
 follow_disk (Err (ends.Fault plays.NoMem)) s e is = absurd (cc)
+follow_disk (Err (ends.Fault plays.Resumed)) s e is = absurd (cc)
 
 pub follow_screen : {T : Type 0} (r : Result T FollowEnd) (s : ReplayStatus) → s ≡ of_following r → s ≡ WriteFault → r ≡ Err (ends.Fault plays.Screen)
 follow_screen (Ok end) s e is = absurd (cc)
 follow_screen (Err (ends.Resumed seen now)) s e is = absurd (cc)
 follow_screen (Err ends.Quiet) s e is = absurd (cc)
+follow_screen (Err ends.Removed) s e is = absurd (cc)
 follow_screen (Err (ends.Fault plays.Absent)) s e is = absurd (cc)
 follow_screen (Err (ends.Fault (plays.Damaged part))) s e is = absurd (cc)
 follow_screen (Err (ends.Fault plays.Disk)) s e is = absurd (cc)
 follow_screen (Err (ends.Fault plays.Screen)) s e is = refl
 follow_screen (Err (ends.Fault plays.NoMem)) s e is = absurd (cc)
+follow_screen (Err (ends.Fault plays.Resumed)) s e is = absurd (cc)
 
 pub list_disk : {T : Type 0} (r : Result T ListFault) (s : ReplayStatus) → s ≡ of_listing r → s ≡ ReadFault → r ≡ Err lists.Disk
 list_disk (Ok end) s e is = absurd (cc)
@@ -156,10 +167,16 @@ pub dir_is : (words : List (List ℕ)) (asked : Asked) (dir : List ℕ) (task : 
 dir_is words asked dir task one two = sym (dir_of_task dir task) ∙ ap (λ (a : Asked). dir_asked a) (one_asked words (task_in dir task) asked two one)
 
 -- what is done doesn't hang on the folder
-pub does_anywhere : (dir other : List ℕ) (task : Task) (image : Image) (status : ReplayStatus) (put : List Item) → Does (task_in dir task) image status put → Does (task_in other task) image status put
-does_anywhere dir other (tasks.Play o id) image status put does = does
-does_anywhere dir other (tasks.Follow o id) image status put does = does
-does_anywhere dir other (tasks.List words) image status put does = does
+pub does_anywhere : (dir other : List ℕ) (task : Task) (images : ℕ → Image) (saw : List (List Item)) (status : ReplayStatus) (put : List Item) → Does (task_in dir task) images saw status put → Does (task_in other task) images saw status put
+does_anywhere dir other (tasks.Play o id) images saw status put does = does
+does_anywhere dir other (tasks.Follow o id) images saw status put does = does
+does_anywhere dir other (tasks.List words) images saw status put does = does
+
+-- words that don't ask to follow a log are of another task
+pub not_to_follow : (words : List (List ℕ)) (dir : List ℕ) (task : Task) → Asks words (task_in dir task) → (AsksToFollow words → ⊥) → IsToFollow (task_in [] task) → ⊥
+not_to_follow words dir (tasks.Play o id) asks none is = is
+not_to_follow words dir (tasks.Follow o id) asks none is = none (record { dir = dir; manner = _; id = id; asks = asks })
+not_to_follow words dir (tasks.List search) asks none is = is
 
 -- nor does it whether it can be done
 sound_anywhere : (dir other : List ℕ) (task : Task) → IsSoundTask (task_in other task) → IsSoundTask (task_in dir task)
@@ -181,9 +198,12 @@ words_of_task words dir other (tasks.List search) (BadExpression at) asks is = r
 words_of_task words dir other (tasks.Play o id) Absent asks is = inl (record { dir = dir; manner = _; id = id; asks = asks })
 words_of_task words dir other (tasks.Follow o id) Absent asks is = inr (record { dir = dir; manner = _; id = id; asks = asks })
 words_of_task words dir other (tasks.List search) Absent asks is = absurd is
-words_of_task words dir other (tasks.Play o id) Resumed asks is = absurd is
-words_of_task words dir other (tasks.Follow o id) Resumed asks is = (is.0, _, record { dir = dir; id = id; asks = asks; number = is.1 })
+words_of_task words dir other (tasks.Play o id) Resumed asks is = inl (is.0, _, record { dir = dir; id = id; asks = asks; number = is.1 })
+words_of_task words dir other (tasks.Follow o id) Resumed asks is = inr (is.0, _, record { dir = dir; id = id; asks = asks; number = is.1 })
 words_of_task words dir other (tasks.List search) Resumed asks is = absurd is
+words_of_task words dir other (tasks.Play o id) Removed asks is = absurd is
+words_of_task words dir other (tasks.Follow o id) Removed asks is = (is.0, _, record { dir = dir; id = id; asks = asks; number = is.1 })
+words_of_task words dir other (tasks.List search) Removed asks is = absurd is
 words_of_task words dir other (tasks.Play o id) Quiet asks is = absurd is
 words_of_task words dir other (tasks.Follow o id) Quiet asks is = (is.0, _, record { dir = dir; id = id; asks = asks; number = is.1 })
 words_of_task words dir other (tasks.List search) Quiet asks is = absurd is
@@ -208,6 +228,34 @@ read_only old mid new root reads = record {
   each = λ k image from to is. let since : mid.moment ≤ k = omega (arith, root.moment) in λ f. root.quiet.crash f (image f) (reads.unchanged.beside k image since to is f (λ never. never));
   counts = record { writes = λ f. reads.counts.writes f ∙ root.counts.writes f; syncs = λ f. reads.counts.syncs f ∙ root.counts.syncs f };
 }
+
+-- the places were noted, and then files were read beside others
+pub root_beside : (further : Image → ℕ → Image) (old mid new : DiskView) → IsUntouched old mid → IsReadBeside (further mid.reads) mid new → IsOnlyReadBeside (further old.reads) old new
+root_beside further old mid new root beside = record {
+  moment = beside.moment;
+  reads = beside.reads ∙ ap (λ (image : Image). further image beside.moment) (fun_ext (λ f. root.quiet.same f));
+  counts = record { writes = λ f. beside.counts.writes f ∙ root.counts.writes f; syncs = λ f. beside.counts.syncs f ∙ root.counts.syncs f };
+}
+
+-- no call was made, and the others didn't act
+pub beside_nothing : (images : ℕ → Image) (disk : DiskView) → images 0 ≡ disk.reads → IsOnlyReadBeside images disk disk
+beside_nothing images disk first = record { moment = 0; reads = sym first; counts = record { writes = λ f. refl; syncs = λ f. refl } }
+
+-- files were only read, and the others didn't act
+pub reads_beside : (images : ℕ → Image) (old new : DiskView) → images 0 ≡ old.reads → OnlyReads old new → IsReadBeside images old new
+reads_beside images old new first reads = record {
+  moment = 0;
+  reads = fun_ext (λ f. unchanged_reads old new reads.unchanged f) ∙ sym first;
+  counts = reads.counts;
+  places = reads.unchanged.places;
+}
+
+-- nothing was noted, since the others didn't act
+pub noted_none : (notes shows : Type 0) (noted : List (List Item)) (before : List Item) → notes → shows → noted ≡ noted ++ seen_from before []
+noted_none notes shows noted before told told_too = sym (append-nil noted)
+
+pub beside_none : (images : ℕ → Image) (disk : DiskView) → images 0 ≡ disk.reads → IsReadBeside images disk disk
+beside_none images disk first = record { moment = 0; reads = sym first; counts = record { writes = λ f. refl; syncs = λ f. refl }; places = refl }
 
 pub rooted_image : (old mid : DiskView) → IsUntouched old mid → mid.reads ≡ old.reads
 rooted_image old mid root = fun_ext (λ f. root.quiet.same f)

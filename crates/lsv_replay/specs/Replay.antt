@@ -21,7 +21,7 @@ use Rattle.lsv_search.specs.Grammar.{Expression, IsSearch}
 use Rattle.lsv_search.specs.Places.{IsFirstBad}
 use Rattle.lsv_replay.specs.Status.{of_following, of_listing, of_playing}
 use Rattle.lsv_replay.specs.declared.status.ReplayStatus.{ReplayStatus}
-use Rattle.lsv_replay.specs.declared.status.ReplayStatus.TheVariants.{Shown, Usage, BadExpression, Damaged, ReadFault, WriteFault, Resumed, Absent, NoMem}
+use Rattle.lsv_replay.specs.declared.status.ReplayStatus.TheVariants.{Shown, Usage, BadExpression, Damaged, ReadFault, WriteFault, Resumed, Removed, Absent, NoMem}
 use Rattle.lsv_replay.specs.declared.status.ReplayStatus.TheVariants as statuses
 
 -- ---- What is asked for
@@ -59,10 +59,10 @@ PlaysNumber manner (Some n) image status put = (o : Options) × (manner_in o ≡
     × ((answer : Result (Unit {0}) PlayFault) × (status ≡ of_playing answer) × Plays o n image answer put)
 
 -- a log is followed in this manner: nothing of what has no number, and else what the log's following puts
-abbrev pub FollowsNumber : Manner → Option ℕ → Image → ReplayStatus → List Item → Type 0
-FollowsNumber manner None image status put = (status ≡ Absent) × (put ≡ [])
-FollowsNumber manner (Some n) image status put = (o : Options) × (manner_in o ≡ manner)
-    × ((answer : Result (Unit {0}) FollowEnd) × (status ≡ of_following answer) × Follows o n image answer put)
+abbrev pub FollowsNumber : Manner → Option ℕ → (ℕ → Image) → List (List Item) → ReplayStatus → List Item → Type 0
+FollowsNumber manner None images saw status put = (status ≡ Absent) × (put ≡ [])
+FollowsNumber manner (Some n) images saw status put = (o : Options) × (manner_in o ≡ manner)
+    × ((answer : Result (Unit {0}) FollowEnd) × (status ≡ of_following answer) × Follows o n images saw answer put)
 
 -- nothing is put, since the words are no search
 pub record PutsNone (words : List (List ℕ)) (status : ReplayStatus) (put : List Item) : Type 0 where
@@ -83,18 +83,18 @@ pub record ListsSearched (words : List (List ℕ)) (image : Image) (status : Rep
 abbrev pub ListsWords : List (List ℕ) → Image → ReplayStatus → List Item → Type 0
 ListsWords words image status put = PutsNone words status put ⊎ ((status ≡ NoMem) × (put ≡ [])) ⊎ ListsSearched words image status put
 
--- what is asked for is done
-abbrev pub Does : Asked → Image → ReplayStatus → List Item → Type 0
-Does (Play dir manner id) image status put = PlaysNumber manner (log_no_in id) image status put
-Does (Follow dir manner id) image status put = FollowsNumber manner (log_no_in id) image status put
-Does (Search dir words) image status put = ListsWords words image status put
+-- what is asked for is done: of the store as the disk reads at first; but a log is followed while others write it, the disk reads so after each of their acts, and by then they saw this put
+abbrev pub Does : Asked → (ℕ → Image) → List (List Item) → ReplayStatus → List Item → Type 0
+Does (Play dir manner id) images saw status put = PlaysNumber manner (log_no_in id) (images 0) status put
+Does (Follow dir manner id) images saw status put = FollowsNumber manner (log_no_in id) images saw status put
+Does (Search dir words) images saw status put = ListsWords words (images 0) status put
 
 -- what a run puts: nothing if its words are no command or memory ran out, and else what it is asked for
-abbrev pub Answers : List (List ℕ) → Image → ReplayStatus → List Item → Type 0
-Answers words image status put =
+abbrev pub Answers : List (List ℕ) → (ℕ → Image) → List (List Item) → ReplayStatus → List Item → Type 0
+Answers words images saw status put =
     (IsUsage words × (status ≡ Usage) × (put ≡ []))
     ⊎ ((status ≡ NoMem) × (put ≡ []))
-    ⊎ ((asked : Asked) × Asks words asked × Does asked image status put)
+    ⊎ ((asked : Asked) × Asks words asked × Does asked images saw status put)
 
 -- ---- What the words have to do with a status
 
@@ -123,6 +123,10 @@ pub record AsksToFollow (words : List (List ℕ)) : Type 0 where
 abbrev pub AsksToFollowSoundly : List (List ℕ) → Type 0
 AsksToFollowSoundly words = (n : ℕ) × (manner : Manner) × AsksToFollowLog words n manner
 
+-- a log with a number is to be played or followed
+abbrev pub AsksForSoundLog : List (List ℕ) → Type 0
+AsksForSoundLog words = ((n : ℕ) × (manner : Manner) × AsksForLog words n manner) ⊎ AsksToFollowSoundly words
+
 -- what is asked for can be done: the identifier is a log's number, or the words are a search
 abbrev pub IsSoundTask : Asked → Type 0
 IsSoundTask (Play dir manner id) = (n : ℕ) × (log_no_in id ≡ Some n)
@@ -141,7 +145,8 @@ HasWords words (BadExpression at) = AsksBadly words at
 HasWords words (Damaged part) = AsksSoundly words
 HasWords words ReadFault = AsksSoundly words
 HasWords words WriteFault = AsksSoundly words
-HasWords words Resumed = AsksToFollowSoundly words
+HasWords words Resumed = AsksForSoundLog words
+HasWords words Removed = AsksToFollowSoundly words
 HasWords words Absent = AsksToPlay words ⊎ AsksToFollow words
 HasWords words NoMem = Unit {0}
 HasWords words statuses.Quiet = AsksToFollowSoundly words
@@ -152,4 +157,10 @@ HasWords words statuses.Quiet = AsksToFollowSoundly words
 pub record IsOnlyRead (old new : DiskView) : Type 0 where
   pub quiet : Quiet old new
   pub each : (k : ℕ) (image : Image) → old.moment ≤ k → k ≤ new.moment → new.crash_images_at k image → IsCrashImage old image
+  pub counts : Uncounted old new
+
+-- nothing is written beside others: each file reads as they left it at one of these moments, and none was written or synced
+pub record IsOnlyReadBeside (images : ℕ → Image) (old new : DiskView) : Type 0 where
+  pub moment : ℕ
+  pub reads : new.reads ≡ images moment
   pub counts : Uncounted old new

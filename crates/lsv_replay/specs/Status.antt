@@ -7,7 +7,7 @@ use Rattle.lsv_follow.specs.declared.end.FollowEnd.TheVariants as follows
 use Rattle.lsv_play.specs.declared.fault.PlayFault.{PlayFault}
 use Rattle.lsv_play.specs.declared.fault.PlayFault.TheVariants as plays
 use Rattle.lsv_replay.specs.declared.status.ReplayStatus.{ReplayStatus}
-use Rattle.lsv_replay.specs.declared.status.ReplayStatus.TheVariants.{Shown, Usage, BadExpression, Damaged, ReadFault, WriteFault, Resumed, Absent, NoMem, Quiet}
+use Rattle.lsv_replay.specs.declared.status.ReplayStatus.TheVariants.{Shown, Usage, BadExpression, Damaged, ReadFault, WriteFault, Resumed, Removed, Absent, NoMem, Quiet}
 
 -- the exit status of the program
 abbrev pub number_of : ReplayStatus → ℕ
@@ -18,6 +18,7 @@ number_of (Damaged part) = 4
 number_of ReadFault = 5
 number_of WriteFault = 6
 number_of Resumed = 7
+number_of Removed = 8
 number_of Absent = 8
 number_of NoMem = 9
 number_of Quiet = 10
@@ -31,6 +32,7 @@ text_of (Damaged part) = codes "log damaged"
 text_of ReadFault = codes "read fault"
 text_of WriteFault = codes "write fault"
 text_of Resumed = codes "log resumed"
+text_of Removed = codes "log removed"
 text_of Absent = codes "no such log"
 text_of NoMem = codes "out of memory"
 text_of Quiet = codes "log quiet"
@@ -40,6 +42,7 @@ abbrev pub of_playing : {T : Type 0} → Result T PlayFault → ReplayStatus
 of_playing (Ok end) = Shown
 of_playing (Err plays.Absent) = Absent
 of_playing (Err (plays.Damaged part)) = Damaged part
+of_playing (Err plays.Resumed) = Resumed
 of_playing (Err plays.Disk) = ReadFault
 of_playing (Err plays.Screen) = WriteFault
 of_playing (Err plays.NoMem) = NoMem
@@ -48,6 +51,7 @@ of_playing (Err plays.NoMem) = NoMem
 abbrev pub of_following : {T : Type 0} → Result T FollowEnd → ReplayStatus
 of_following (Ok end) = Shown
 of_following (Err (follows.Resumed seen now)) = Resumed
+of_following (Err follows.Removed) = Removed
 of_following (Err follows.Quiet) = Quiet
 of_following {T} (Err (follows.Fault fault)) = let answer : Result T PlayFault = Err fault in of_playing answer
 

@@ -22,32 +22,34 @@ ghost use Rattle.lsv_replay.specs.declared.status.ReplayStatus.{ReplayStatus};
 ghost use Rattle.lsv_replay.specs.declared.status.ReplayStatus.TheVariants as statuses;
 
 /// If the words ask for a log that the disk holds, nothing or a first part of the playback schedule of its records is
-/// shown, and at `Shown` all of it. Such a log is never reported absent or damaged.
+/// shown, and at `Shown` all of it. Such a log is never reported absent or damaged, nor resumed while nobody writes it.
 pub fn a_stored_log_is_shown()
-    ensures part { (words : List (List ℕ)) (n : ℕ) (manner : Manner) (image : Image) (status : ReplayStatus) (put : List Item) (log : Stored) → AsksForLog words n manner → Replays image n (Some log) → Answers words image status put
+    ensures part { (words : List (List ℕ)) (n : ℕ) (manner : Manner) (images : ℕ → Image) (saw : List (List Item)) (status : ReplayStatus) (put : List Item) (log : Stored) → AsksForLog words n manner → Replays (images 0) n (Some log) → Answers words images saw status put
         → (put ≡ []) ⊎ ((o : Options) × (manner_in o ≡ manner) × IsPart put (play o log.records)) }
-    ensures whole { (words : List (List ℕ)) (n : ℕ) (manner : Manner) (image : Image) (put : List Item) (log : Stored) → AsksForLog words n manner → Replays image n (Some log) → Answers words image statuses.Shown put
+    ensures whole { (words : List (List ℕ)) (n : ℕ) (manner : Manner) (images : ℕ → Image) (saw : List (List Item)) (put : List Item) (log : Stored) → AsksForLog words n manner → Replays (images 0) n (Some log) → Answers words images saw statuses.Shown put
         → (o : Options) × (manner_in o ≡ manner) × (put ≡ play o log.records) }
-    ensures there { (words : List (List ℕ)) (n : ℕ) (manner : Manner) (image : Image) (put : List Item) (log : Stored) → AsksForLog words n manner → Replays image n (Some log) → Answers words image statuses.Absent put → ⊥ }
-    ensures undamaged { (words : List (List ℕ)) (n : ℕ) (manner : Manner) (image : Image) (put : List Item) (log : Stored) (part : Part) → AsksForLog words n manner → Replays image n (Some log)
-        → Answers words image (statuses.Damaged part) put → ⊥ }
+    ensures there { (words : List (List ℕ)) (n : ℕ) (manner : Manner) (images : ℕ → Image) (saw : List (List Item)) (put : List Item) (log : Stored) → AsksForLog words n manner → Replays (images 0) n (Some log) → Answers words images saw statuses.Absent put → ⊥ }
+    ensures undamaged { (words : List (List ℕ)) (n : ℕ) (manner : Manner) (images : ℕ → Image) (saw : List (List Item)) (put : List Item) (log : Stored) (part : Part) → AsksForLog words n manner → Replays (images 0) n (Some log)
+        → Answers words images saw (statuses.Damaged part) put → ⊥ }
+    ensures uncut { (words : List (List ℕ)) (n : ℕ) (manner : Manner) (images : ℕ → Image) (saw : List (List Item)) (put : List Item) → AsksForLog words n manner → Answers words images saw statuses.Resumed put → ⊥ }
 {}
 
-/// If the words ask to follow a log that the disk holds, nothing is shown, or a first part of the playback schedule of
-/// its records and 36,000 pauses of 100 ms. At `Shown` the schedule is shown, and the log is complete. At `Quiet` the
-/// schedule and the pauses are shown, and the log isn't complete. Such a log is never reported absent, damaged or
-/// resumed.
+/// If the words ask to follow a log that the disk holds and nobody writes, nothing is shown, or a first part of the
+/// playback schedule of its records and 36,000 pauses of 100 ms. At `Shown` the schedule is shown, and the log is
+/// complete. At `Quiet` the schedule and the pauses are shown, and the log isn't complete. Such a log is never reported
+/// absent, removed, damaged or resumed.
 pub fn a_followed_log_is_shown()
-    ensures part { (words : List (List ℕ)) (n : ℕ) (manner : Manner) (image : Image) (status : ReplayStatus) (put : List Item) (log : Stored) → AsksToFollowLog words n manner → Replays image n (Some log) → Answers words image status put
+    ensures part { (words : List (List ℕ)) (n : ℕ) (manner : Manner) (images : ℕ → Image) (saw : List (List Item)) (status : ReplayStatus) (put : List Item) (log : Stored) → AsksToFollowLog words n manner → ((k : ℕ) → Replays (images k) n (Some log)) → Answers words images saw status put
         → (put ≡ []) ⊎ ((o : Options) × (manner_in o ≡ manner) × IsPart put (play o log.records ++ pauses most_quiet)) }
-    ensures whole { (words : List (List ℕ)) (n : ℕ) (manner : Manner) (image : Image) (put : List Item) (log : Stored) → AsksToFollowLog words n manner → Replays image n (Some log) → Answers words image statuses.Shown put
+    ensures whole { (words : List (List ℕ)) (n : ℕ) (manner : Manner) (images : ℕ → Image) (saw : List (List Item)) (put : List Item) (log : Stored) → AsksToFollowLog words n manner → ((k : ℕ) → Replays (images k) n (Some log)) → Answers words images saw statuses.Shown put
         → (o : Options) × (manner_in o ≡ manner) × (put ≡ play o log.records) × (log.exit ≢ None) }
-    ensures quiet { (words : List (List ℕ)) (n : ℕ) (manner : Manner) (image : Image) (put : List Item) (log : Stored) → AsksToFollowLog words n manner → Replays image n (Some log) → Answers words image statuses.Quiet put
+    ensures quiet { (words : List (List ℕ)) (n : ℕ) (manner : Manner) (images : ℕ → Image) (saw : List (List Item)) (put : List Item) (log : Stored) → AsksToFollowLog words n manner → ((k : ℕ) → Replays (images k) n (Some log)) → Answers words images saw statuses.Quiet put
         → (o : Options) × (manner_in o ≡ manner) × (put ≡ play o log.records ++ pauses most_quiet) × (log.exit ≡ None) }
-    ensures there { (words : List (List ℕ)) (n : ℕ) (manner : Manner) (image : Image) (put : List Item) (log : Stored) → AsksToFollowLog words n manner → Replays image n (Some log) → Answers words image statuses.Absent put → ⊥ }
-    ensures undamaged { (words : List (List ℕ)) (n : ℕ) (manner : Manner) (image : Image) (put : List Item) (log : Stored) (part : Part) → AsksToFollowLog words n manner → Replays image n (Some log)
-        → Answers words image (statuses.Damaged part) put → ⊥ }
-    ensures uncut { (words : List (List ℕ)) (n : ℕ) (manner : Manner) (image : Image) (put : List Item) → AsksToFollowLog words n manner → Answers words image statuses.Resumed put → ⊥ }
+    ensures there { (words : List (List ℕ)) (n : ℕ) (manner : Manner) (images : ℕ → Image) (saw : List (List Item)) (put : List Item) (log : Stored) → AsksToFollowLog words n manner → ((k : ℕ) → Replays (images k) n (Some log)) → Answers words images saw statuses.Absent put → ⊥ }
+    ensures undamaged { (words : List (List ℕ)) (n : ℕ) (manner : Manner) (images : ℕ → Image) (saw : List (List Item)) (put : List Item) (log : Stored) (part : Part) → AsksToFollowLog words n manner → ((k : ℕ) → Replays (images k) n (Some log))
+        → Answers words images saw (statuses.Damaged part) put → ⊥ }
+    ensures kept { (words : List (List ℕ)) (n : ℕ) (manner : Manner) (images : ℕ → Image) (saw : List (List Item)) (put : List Item) (log : Stored) → AsksToFollowLog words n manner → ((k : ℕ) → Replays (images k) n (Some log)) → Answers words images saw statuses.Removed put → ⊥ }
+    ensures uncut { (words : List (List ℕ)) (n : ℕ) (manner : Manner) (images : ℕ → Image) (saw : List (List Item)) (put : List Item) (log : Stored) → AsksToFollowLog words n manner → ((k : ℕ) → Replays (images k) n (Some log)) → Answers words images saw statuses.Resumed put → ⊥ }
 {}
 
 /// If the disk holds a log, exactly its head is found. If the log is absent, nothing is found.

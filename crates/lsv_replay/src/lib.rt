@@ -2,6 +2,7 @@
 #![tactic(auto)]
 
 mod fault;
+mod gaps;
 mod laws;
 mod listing;
 mod numbers;
@@ -9,6 +10,7 @@ mod program;
 mod status;
 
 pub use fault::ListFault;
+pub use gaps::{Gaps, NoGaps};
 pub use laws::{
     a_followed_log_is_shown, a_stored_log_is_found, a_stored_log_is_shown, stored_logs_are_listed,
 };

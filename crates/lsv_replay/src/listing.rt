@@ -14,8 +14,8 @@ ghost use Rattle.lsv_replay.specs.Numbers.{IsListed};
 ghost use Rattle.lsv_replay.specs.Walk.{ListsHead, ListsOne, ListsTo};
 ghost use Rattle.lsv_replay.specs.declared.fault.ListFault.TheVariants as faults;
 
-use crate::ListFault;
 use crate::numbers::last_number;
+use crate::{Gaps, ListFault};
 use lsv_base::{Bytes, LogNo, NoMem};
 use lsv_disk::{Disk, Part};
 use lsv_event::{Event, Peer, sudo_line};
@@ -28,13 +28,14 @@ use std::alloc::Global;
 /// A line says nothing of the connection by which a command came.
 const NOBODY: Peer = Peer { worker: 0, seq: 0 };
 
-/// Shows the line of each log that matches the expression, by rising number, from 1 to the last one drawn. A damaged log
-/// is passed over, and reported by the answer.
-pub fn list_logs<D: Disk, S: Screen>(
+/// Shows the line of each log that matches the expression, by rising number, from 1 to the last one drawn. Gaps between
+/// the logs are passed over at once. A damaged log is passed over, and reported by the answer.
+pub fn list_logs<D: Disk, S: Screen, G: Gaps<D>>(
     alloc: Global,
     disk: &mut D,
     e: &Expr,
     screen: &mut S,
+    gaps: &mut G,
 ) -> Result<(), ListFault>
     ensures listed { D.tells → (searched : Option Expression) → AreStepsOf searched e.now
         → (put : List Item) × (S.tells → S.shown screen.new ≡ S.shown screen.old ++ put) × Lists searched (D.view disk.old).reads result put }
@@ -43,19 +44,20 @@ pub fn list_logs<D: Disk, S: Screen>(
     ensures screen { HasCause (result ≡ Err faults.Screen) (S.faults screen.old) (S.faults screen.new) }
 {
     let last = last_number(disk)?;
-    match list_to(alloc, disk, e, last, screen)? {
+    match list_to(alloc, disk, e, last, screen, gaps)? {
         None => Ok(()),
         Some(part) => Err(ListFault::Damaged(part)),
     }
 }
 
 /// Lists the logs of the numbers from 1 to the last one. Answers the part at fault of the first that is damaged.
-fn list_to<D: Disk, S: Screen>(
+fn list_to<D: Disk, S: Screen, G: Gaps<D>>(
     alloc: Global,
     disk: &mut D,
     e: &Expr,
     last: u32,
     screen: &mut S,
+    gaps: &mut G,
 ) -> Result<Option<Part>, ListFault>
     ensures listed { D.tells → last ≤ 2176782335 → (searched : Option Expression) → AreStepsOf searched e.now
         → (put : List Item) × (S.tells → S.shown screen.new ≡ S.shown screen.old ++ put) × ListsTo searched (D.view disk.old).reads last result put }
@@ -64,24 +66,31 @@ fn list_to<D: Disk, S: Screen>(
     ensures screen { HasCause (result ≡ Err faults.Screen) (S.faults screen.old) (S.faults screen.new) }
 {
     let mut first = None;
-    for before in 0..last {
-        let Some(number) = LogNo::new(before + 1) else {
+    let mut listed = 0;
+    'numbers: while listed < last {
+        let next = gaps.next(disk, listed + 1);
+        if next > last {
+            return Ok(first);
+        }
+        let Some(number) = LogNo::new(next) else {
             // Never reached if the disk tells its content: no entry of a number file has a greater number.
             return Err(ListFault::Damaged(Part::Slots));
         };
-        let damage = list_log(alloc, disk, e, number, screen)?;
+        let damage = list_log(alloc, disk, e, number, screen, gaps)?;
         first = first.or(damage);
+        listed = next;
     }
     Ok(first)
 }
 
 /// Lists the log of this number, if it exists and is searched for. Answers the part at fault if it is damaged.
-fn list_log<D: Disk, S: Screen>(
+fn list_log<D: Disk, S: Screen, G: Gaps<D>>(
     alloc: Global,
     disk: &mut D,
     e: &Expr,
     number: LogNo,
     screen: &mut S,
+    gaps: &mut G,
 ) -> Result<Option<Part>, ListFault>
     ensures listed { D.tells → (searched : Option Expression) → AreStepsOf searched e.now
         → (put : List Item) × (S.tells → S.shown screen.new ≡ S.shown screen.old ++ put) × ListsOne searched (D.view disk.old).reads number result put }
@@ -91,7 +100,13 @@ fn list_log<D: Disk, S: Screen>(
 {
     match LogView::open(alloc, disk, number) {
         Ok(log) => list_head(alloc, e, number, log.into_head(), screen),
-        Err(fault) => damage_of(fault),
+        Err(fault) => {
+            let damage = damage_of(fault);
+            if let Ok(part) = damage {
+                gaps.note(number, part);
+            }
+            damage
+        }
     }
 }
 

@@ -11,14 +11,16 @@ ghost use Rattle.lsv_replay.specs.Numbers.{IsListed};
 ghost use Rattle.lsv_play.specs.declared.screen.Item.{Item};
 ghost use Rattle.lsv_replay_args.specs.Asked.{IsTextual, asked_in, manner_in, task_in};
 ghost use Rattle.lsv_replay_args.specs.Request.{Asked, Follow, Play, Search, dir_asked};
-ghost use Rattle.lsv_replay.specs.Replay.{Answers, Asks, Does, FollowsNumber, HasWords, IsOnlyRead, IsUsage, ListsWords, PlaysNumber};
-ghost use Rattle.lsv_replay.specs.Tasks.{IsOfTask};
+ghost use Rattle.lsv_follow.specs.Followed.{seen_from};
+ghost use Rattle.lsv_follow.specs.Others.{IsReadBeside};
+ghost use Rattle.lsv_replay.specs.Replay.{Answers, Asks, AsksToFollow, Does, FollowsNumber, HasWords, IsOnlyRead, IsOnlyReadBeside, IsUsage, ListsWords, PlaysNumber};
+ghost use Rattle.lsv_replay.specs.Tasks.{IsOfTask, IsToFollow};
 ghost use Rattle.lsv_replay.specs.declared.status.ReplayStatus.TheVariants as statuses;
 
-use crate::{ReplayStatus, list_logs};
+use crate::{Gaps, ReplayStatus, list_logs};
 use lsv_base::{Bytes, List, LogNo};
 use lsv_disk::Disk;
-use lsv_follow::follow_log;
+use lsv_follow::{Others, follow_log};
 use lsv_play::{Options, Screen, play_log};
 use lsv_replay_args::{ArgFault, Request, Task, read_request};
 use lsv_search::{ExprFault, read_expr};
@@ -26,16 +28,21 @@ use std::alloc::Global;
 use std::str;
 
 /// `sudoreplay`, with the words after its name: it plays a log, with `-F` follows it while it is written, or with `-l`
-/// lists the logs that are searched for. Nothing is written to the store.
-pub fn sudoreplay<D: Disk, S: Screen>(
+/// lists the logs that are searched for. Nothing is written to the store. What others do to a log that is followed, and
+/// which numbers have no log, is known by two objects of the outside.
+pub fn sudoreplay<D: Disk, S: Screen, O: Others<D>, G: Gaps<D>>(
     alloc: Global,
     words: &List<Bytes>,
     disk: &mut D,
     screen: &mut S,
+    others: &mut O,
+    gaps: &mut G,
 ) -> ReplayStatus
-    ensures runs { D.tells → (put : List Item) × (S.tells → S.shown screen.new ≡ S.shown screen.old ++ put) × Answers words.now (D.view disk.old).reads result put }
+    ensures runs { D.tells → (put : List Item) × (saw : List (List Item)) × (S.tells → S.shown screen.new ≡ S.shown screen.old ++ put)
+        × (O.notes → S.tells → O.noted others.new ≡ O.noted others.old ++ seen_from (S.shown screen.old) saw) × Answers words.now (O.later others.old (D.view disk.old).reads) saw result put }
     ensures words { HasWords words.now result }
-    ensures reads { D.tells → IsOnlyRead (D.view disk.old) (D.view disk.new) }
+    ensures reads { D.tells → (AsksToFollow words.now → ⊥) → IsOnlyRead (D.view disk.old) (D.view disk.new) }
+    ensures beside { D.tells → IsOnlyReadBeside (O.later others.old (D.view disk.old).reads) (D.view disk.old) (D.view disk.new) }
     ensures disk { HasOwnCause IsListed (result ≡ statuses.ReadFault) (D.view disk.old) (D.view disk.new) }
     ensures screen { HasCause (result ≡ statuses.WriteFault) (S.faults screen.old) (S.faults screen.new) }
     ensures places { D.tells → (asked : Asked) → Asks words.now asked → (result ≡ statuses.NoMem)
@@ -47,7 +54,7 @@ pub fn sudoreplay<D: Disk, S: Screen>(
         Err(ArgFault::NoMem) => return ReplayStatus::NoMem,
     };
     disk.root(request.dir.as_str(), "");
-    do_task(alloc, &request.task, disk, screen)
+    do_task(alloc, &request.task, disk, screen, others, gaps)
 }
 
 /// What the words ask for. A word that isn't UTF-8 is no word of the program's.
@@ -79,23 +86,27 @@ fn is_text(word: &[u8]) -> bool
 }
 
 /// Plays or follows the log, or lists the logs.
-fn do_task<D: Disk, S: Screen>(
+fn do_task<D: Disk, S: Screen, O: Others<D>, G: Gaps<D>>(
     alloc: Global,
     task: &Task,
     disk: &mut D,
     screen: &mut S,
+    others: &mut O,
+    gaps: &mut G,
 ) -> ReplayStatus
     requires text { IsTextual task.now }
     ensures status { IsOfTask (task_in [] task.now) result }
-    ensures does { D.tells → (put : List Item) × (S.tells → S.shown screen.new ≡ S.shown screen.old ++ put) × Does (task_in [] task.now) (D.view disk.old).reads result put }
-    ensures reads { D.tells → OnlyReads (D.view disk.old) (D.view disk.new) }
+    ensures does { D.tells → (put : List Item) × (saw : List (List Item)) × (S.tells → S.shown screen.new ≡ S.shown screen.old ++ put)
+        × (O.notes → S.tells → O.noted others.new ≡ O.noted others.old ++ seen_from (S.shown screen.old) saw) × Does (task_in [] task.now) (O.later others.old (D.view disk.old).reads) saw result put }
+    ensures reads { D.tells → (IsToFollow (task_in [] task.now) → ⊥) → OnlyReads (D.view disk.old) (D.view disk.new) }
+    ensures beside { D.tells → IsReadBeside (O.later others.old (D.view disk.old).reads) (D.view disk.old) (D.view disk.new) }
     ensures disk { HasOwnCause IsListed (result ≡ statuses.ReadFault) (D.view disk.old) (D.view disk.new) }
     ensures screen { HasCause (result ≡ statuses.WriteFault) (S.faults screen.old) (S.faults screen.new) }
 {
     match task {
         Task::Play(options, id) => play_id(alloc, options, id, disk, screen),
-        Task::Follow(options, id) => follow_id(alloc, options, id, disk, screen),
-        Task::List(words) => list_searched(alloc, words, disk, screen),
+        Task::Follow(options, id) => follow_id(alloc, options, id, disk, screen, others),
+        Task::List(words) => list_searched(alloc, words, disk, screen, gaps),
     }
 }
 
@@ -120,33 +131,37 @@ fn play_id<D: Disk, S: Screen>(
 }
 
 /// Follows the log with this identifier.
-fn follow_id<D: Disk, S: Screen>(
+fn follow_id<D: Disk, S: Screen, O: Others<D>>(
     alloc: Global,
     options: &Options,
     id: &Bytes,
     disk: &mut D,
     screen: &mut S,
+    others: &mut O,
 ) -> ReplayStatus
     ensures status { IsOfTask (Follow [] (manner_in options.now) id.now) result }
-    ensures follows { D.tells → (put : List Item) × (S.tells → S.shown screen.new ≡ S.shown screen.old ++ put) × FollowsNumber (manner_in options.now) (log_no_in id.now) (D.view disk.old).reads result put }
-    ensures reads { D.tells → OnlyReads (D.view disk.old) (D.view disk.new) }
+    ensures follows { D.tells → (put : List Item) × (saw : List (List Item)) × (S.tells → S.shown screen.new ≡ S.shown screen.old ++ put)
+        × (O.notes → S.tells → O.noted others.new ≡ O.noted others.old ++ seen_from (S.shown screen.old) saw) × FollowsNumber (manner_in options.now) (log_no_in id.now) (O.later others.old (D.view disk.old).reads) saw result put }
+    ensures beside { D.tells → IsReadBeside (O.later others.old (D.view disk.old).reads) (D.view disk.old) (D.view disk.new) }
     ensures disk { HasOwnCause IsListed (result ≡ statuses.ReadFault) (D.view disk.old) (D.view disk.new) }
     ensures screen { HasCause (result ≡ statuses.WriteFault) (S.faults screen.old) (S.faults screen.new) }
 {
     match LogNo::read(id.as_slice()) {
         Some(number) => {
-            ReplayStatus::of_following(follow_log(alloc, disk, number, options, screen))
+            let answer = follow_log(alloc, disk, number, options, screen, others);
+            ReplayStatus::of_following(answer)
         }
         None => ReplayStatus::Absent,
     }
 }
 
 /// Lists the logs that these words search for.
-fn list_searched<D: Disk, S: Screen>(
+fn list_searched<D: Disk, S: Screen, G: Gaps<D>>(
     alloc: Global,
     words: &List<Bytes>,
     disk: &mut D,
     screen: &mut S,
+    gaps: &mut G,
 ) -> ReplayStatus
     requires text { IsTrue (list_all is_utf8 words.now) }
     ensures status { IsOfTask (Search [] words.now) result }
@@ -160,5 +175,5 @@ fn list_searched<D: Disk, S: Screen>(
         Err(ExprFault::BadExpression(at)) => return ReplayStatus::BadExpression(at),
         Err(ExprFault::NoMem) => return ReplayStatus::NoMem,
     };
-    ReplayStatus::of_listing(list_logs(alloc, disk, &e, screen))
+    ReplayStatus::of_listing(list_logs(alloc, disk, &e, screen, gaps))
 }

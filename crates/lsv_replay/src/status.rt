@@ -25,8 +25,10 @@ pub enum ReplayStatus {
     ReadFault,
     /// A write to the screen failed.
     WriteFault,
-    /// The log was cut by a restart while it was followed.
+    /// The log was cut by a restart while it was played or followed.
     Resumed,
+    /// The log was removed while it was followed.
+    Removed,
     /// There is no such log.
     Absent,
     /// Out of memory.
@@ -48,6 +50,7 @@ impl ReplayStatus {
             ReplayStatus::ReadFault => 5,
             ReplayStatus::WriteFault => 6,
             ReplayStatus::Resumed => 7,
+            ReplayStatus::Removed => 8,
             ReplayStatus::Absent => 8,
             ReplayStatus::NoMem => 9,
             ReplayStatus::Quiet => 10,
@@ -66,6 +69,7 @@ impl ReplayStatus {
             ReplayStatus::ReadFault => Bytes::of(alloc, b"read fault"),
             ReplayStatus::WriteFault => Bytes::of(alloc, b"write fault"),
             ReplayStatus::Resumed => Bytes::of(alloc, b"log resumed"),
+            ReplayStatus::Removed => Bytes::of(alloc, b"log removed"),
             ReplayStatus::Absent => Bytes::of(alloc, b"no such log"),
             ReplayStatus::NoMem => Bytes::of(alloc, b"out of memory"),
             ReplayStatus::Quiet => Bytes::of(alloc, b"log quiet"),
@@ -80,6 +84,7 @@ impl ReplayStatus {
             Ok(()) => ReplayStatus::Shown,
             Err(PlayFault::Absent) => ReplayStatus::Absent,
             Err(PlayFault::Damaged(part)) => ReplayStatus::Damaged(part),
+            Err(PlayFault::Resumed) => ReplayStatus::Resumed,
             Err(PlayFault::Disk) => ReplayStatus::ReadFault,
             Err(PlayFault::Screen) => ReplayStatus::WriteFault,
             Err(PlayFault::NoMem) => ReplayStatus::NoMem,
@@ -93,6 +98,7 @@ impl ReplayStatus {
         match answer {
             Ok(()) => ReplayStatus::Shown,
             Err(FollowEnd::Resumed { .. }) => ReplayStatus::Resumed,
+            Err(FollowEnd::Removed) => ReplayStatus::Removed,
             Err(FollowEnd::Quiet) => ReplayStatus::Quiet,
             Err(FollowEnd::Fault(fault)) => ReplayStatus::of_playing(Err(fault)),
         }

@@ -7,6 +7,7 @@ use Rattle.lsv_iolog.proofs.Viewing.{err_of}
 use Rattle.lsv_play.specs.Faults.{of_log}
 use Rattle.lsv_play.specs.declared.fault.PlayFault.TheVariants as faults
 use Rattle.lsv_play.proofs.Played.{err_same, log_disk, log_screen, open_fails, opened_log, opened_plays, own_cause, screen_none}
+use Rattle.lsv_play.proofs.Pieces.{reached_first}
 use Rattle.lsv_play.proofs.playing.play_log.Goals as goal
 
 pub returns-in_err-log-clause-played : goal.returns-in_err-log-clause-played
@@ -32,7 +33,7 @@ pub returns-clause-played : goal.returns-clause-played
 returns-clause-played g c told =
     let old : DiskView = g.D.Disk.view c.args.disk.now in
     let mid : DiskView = g.D.Disk.view c.open.new.disk in
-    let puts = c.play_records.ensures.played told (c.in_ok-log.ensures.behind told) in
+    let puts = c.play_records.ensures.played told (reached_first c.args.number c.in_ok-log.log old mid c.in_ok-log.ensures.number (c.open.ensures.reads told) (c.in_ok-log.ensures.entry told) (c.in_ok-log.ensures.behind told)) in
     let opened = opened_log c.args.number c.in_ok-log.log old mid c.in_ok-log.ensures.number (c.open.ensures.reads told) (c.in_ok-log.ensures.entry told) (c.in_ok-log.ensures.head told) (c.in_ok-log.ensures.behind told) in
     (puts.0, puts.1, opened_plays c.args.o.now c.args.number c.in_ok-log.log old mid c.play_records.result puts.0 c.in_ok-log.ensures.number (c.open.ensures.reads told) opened puts.2)
 

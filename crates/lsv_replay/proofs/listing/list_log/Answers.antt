@@ -1,5 +1,5 @@
 -- A log is opened, and its head is listed; or nothing is put.
-use Rattle.std.proofs.Common.{◌≡◌, Option, Result, IsSome, [], append-nil, subst, sym}
+use Rattle.std.proofs.Common.{◌≡◌, ◌∙◌, Option, Result, IsSome, [], append-nil, subst, sym}
 use Rattle.lsv_base.specs.Time.{nanos_of}
 use Rattle.lsv_disk.specs.declared.file.Part.{Part}
 use Rattle.lsv_disk.specs.View.{DiskView}
@@ -27,12 +27,22 @@ returns-in-Ok-clause-listed g c told searched steps =
     let puts = c.list_head.ensures.listed timed searched steps in
     (puts.0, puts.1, one_of_head searched old.reads c.args.number c.into_head.result c.list_head.result puts.0 (subst (λ (h : Head). IsFound old.reads c.args.number (There h)) (sym same) (v.body, opened)) puts.2)
 
-pub returns-in-Err-clause-listed : goal.returns-in-Err-clause-listed
-returns-in-Err-clause-listed g c told searched steps =
+pub returns-in-Ok-damage-clause-listed : goal.returns-in-Ok-damage-clause-listed
+returns-in-Ok-damage-clause-listed g c told searched steps =
     let old : DiskView = g.D.Disk.view c.args.disk.now in (
       [],
       λ told_too. sym (append-nil (g.S.Screen.shown c.args.screen.now)),
-      subst (λ (r : Result (Option Part) ListFault). ListsOne searched old.reads c.args.number r []) (sym c.damage_of.ensures)
+      subst (λ (r : Result (Option Part) ListFault). ListsOne searched old.reads c.args.number r []) (sym c.damage_of-damage.ensures ∙ c.in-Ok-damage.is)
+          (one_of_fault searched old.reads c.args.number c.in-Err.fault
+          (λ at. c.in-Err.ensures.absent told (err_of c.in-Err.fault views.Absent at)) (λ part at. c.in-Err.ensures.damaged told part (err_of c.in-Err.fault (views.Damaged part) at))),
+    )
+
+pub returns-in_default-clause-listed : goal.returns-in_default-clause-listed
+returns-in_default-clause-listed g c told searched steps =
+    let old : DiskView = g.D.Disk.view c.args.disk.now in (
+      [],
+      λ told_too. sym (append-nil (g.S.Screen.shown c.args.screen.now)),
+      subst (λ (r : Result (Option Part) ListFault). ListsOne searched old.reads c.args.number r []) (sym c.damage_of-damage.ensures)
           (one_of_fault searched old.reads c.args.number c.in-Err.fault
           (λ at. c.in-Err.ensures.absent told (err_of c.in-Err.fault views.Absent at)) (λ part at. c.in-Err.ensures.damaged told part (err_of c.in-Err.fault (views.Damaged part) at))),
     )

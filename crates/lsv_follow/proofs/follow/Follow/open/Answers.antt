@@ -1,11 +1,12 @@
 -- A log is opened with nothing shown, and isn't damaged if the disk holds it.
-use Rattle.std.proofs.Common.{◌≡◌, ◌⊎◌, refl, sym, subst}
+use Rattle.std.proofs.Common.{◌≡◌, ◌⊎◌, sym, subst}
 use Rattle.lsv_iolog.specs.declared.fault.ViewFault.{ViewFault}
 use Rattle.lsv_iolog.specs.declared.fault.ViewFault.TheVariants as views
 use Rattle.lsv_iolog.proofs.Viewing.{err_of}
 use Rattle.lsv_play.proofs.Undamaged.{no_view_damage}
 use Rattle.lsv_follow.proofs.Causes.{if_err_at, open_fault}
-use Rattle.lsv_follow.proofs.Follows.{cuts_are, not_absent}
+use Rattle.lsv_follow.proofs.Given.{not_absent}
+use Rattle.lsv_follow.proofs.Views.{shows_opened}
 use Rattle.lsv_follow.proofs.follow.Follow.open.Goals as goal
 
 pub returns-in_err-view-clause-undamaged : goal.returns-in_err-view-clause-undamaged
@@ -18,8 +19,5 @@ returns-in_err-view-clause-undamaged g c told log holds =
     if_err_at c.from_residual.result e (λ x. (x ≡ views.Disk) ⊎ (x ≡ views.NoMem)) c.from_residual.ensures.1 (λ x at. subst (λ (y : ViewFault). (y ≡ views.Disk) ⊎ (y ≡ views.NoMem)) (sym at) is)
 
 pub returns-clause-shows : goal.returns-clause-shows
-returns-clause-shows g c told log holds = record {
-  cuts = cuts_are c.args.number c.in_ok-view.view.body (g.D.Disk.view c.args.disk.now).reads log (c.in_ok-view.ensures.entry told) holds;
-  given = (c.in_ok-view.ensures.behind told).given;
-  first = (log.records, refl);
-}
+returns-clause-shows g c told =
+    shows_opened c.args.number c.in_ok-view.view (g.D.Disk.view c.args.disk.now) (g.D.Disk.view c.open.new.disk) c.in_ok-view.ensures.number (c.open.ensures.reads told) (c.in_ok-view.ensures.entry told) (c.in_ok-view.ensures.head told) (c.in_ok-view.ensures.behind told)
