@@ -1,0 +1,11 @@
+pub mod Calm
+pub mod Digits
+pub mod Feeding
+pub mod Fixing
+pub mod Judging
+pub mod Marking
+pub mod OneVerdict
+pub mod Plain
+pub mod Quiet
+pub mod Uncontrolled
+pub mod Walking
