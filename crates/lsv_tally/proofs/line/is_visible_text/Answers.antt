@@ -1,0 +1,8 @@
+use Rattle.std.proofs.Common.{rules, tests}
+use Rattle.std.proofs.lemmas.Iterator.{YieldsList-from_slice}
+use Rattle.std.proofs.lemmas.Iterator.Search.{all_from_yields_List}
+use Rattle.lsv_tally.specs.Events.{is_visible}
+use Rattle.lsv_tally.proofs.line.is_visible_text.Goals as goal
+
+pub returns : goal.returns
+returns c = all_from_yields_List is_visible _ _ _ c.all.ensures.ran (YieldsList-from_slice c.args.line.now cc) (λ x b q k. search (rules, tests))
