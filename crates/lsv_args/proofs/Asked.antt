@@ -16,9 +16,9 @@ use Rattle.clap.specs.Simple.{App, Shape, built, built_leaf, entered, inherited,
 use Rattle.clap.specs.Takes.{is_given}
 use Rattle.clap.specs.ValueTests.{accepts}
 use Rattle.clap.specs.Walk.{answers_to, Row, Rule, Text, Walk, default_rows, finished, first_of, has_row, nothing_held, rows_after, reading_by, settled, walk, walk_from, walked, walked_from, with_default, word_met}
-use Rattle.lsv_args.specs.Commands.{commands, from_to, load, most_lanes, once, relay, serve}
+use Rattle.lsv_args.specs.Commands.{check, commands, from_to, load, most_lanes, most_workers, once, relay, serve}
 use Rattle.lsv_args.proofs.Numbers.{number_accepted}
-use Rattle.lsv_args.specs.Reading.{Asked, HasRanges, IsInRange, number_of, asked, asked_by, number, number_in, options_of, Once, Serve, Load, Relay}
+use Rattle.lsv_args.specs.Reading.{Asked, HasRanges, IsInRange, number_of, asked, asked_by, number, number_in, options_of, Once, Serve, Load, Relay, Check}
 use Rattle.lsv_args.proofs.Walks.{AllPlain, HasValue, IsPlainRule, both_none, settled_passes, step_passes, word_passes}
 
 turn_by : (id : Text) (acc : Text → Bool) (s : Shape) (w : Walk) (word : Text) (o : Option (Text × List Text)) → s.args_override_self ≡ false → AllPlain id acc s.rules
@@ -62,17 +62,18 @@ level_passes id acc s words single all none =
 abbrev Asks : Shape → List Text → Type 0
 Asks s words = level_fault s [] nothing_held words false [] ≡ [] → (x : Asked) × (asked_by s.name (rows_after s.rules [] words) ≡ Some x) × IsInRange x
 
-abbrev sub_of : Bool → Bool → Bool → Bool → Shape → Shape → Shape → Shape → Option Shape
-sub_of t u v w a b c d = cond t (Some a) (cond u (Some b) (cond v (Some c) (cond w (Some d) None)))
+abbrev sub_of : Bool → Bool → Bool → Bool → Bool → Shape → Shape → Shape → Shape → Shape → Option Shape
+sub_of t u v w x a b c d e = cond t (Some a) (cond u (Some b) (cond v (Some c) (cond w (Some d) (cond x (Some e) None))))
 
-by_sub : (t u v w : Bool) (a b c d : Shape) (words : List Text) → Asks a words → Asks b words → Asks c words → Asks d words
-    → is_some (option_map (λ s. rows_at s words) (sub_of t u v w a b c d)) ≡ true → option_map_or (λ s. level_fault s [] nothing_held words false []) (sub_of t u v w a b c d) [] ≡ []
-    → (x : Asked) × (option_and_then (λ (s : Text × List Row). asked_by s.0 s.1) (option_map (λ s. rows_at s words) (sub_of t u v w a b c d)) ≡ Some x) × IsInRange x
-by_sub true u v w a b c d words f g h i some none = f none
-by_sub false true v w a b c d words f g h i some none = g none
-by_sub false false true w a b c d words f g h i some none = h none
-by_sub false false false true a b c d words f g h i some none = i none
-by_sub false false false false a b c d words f g h i some none = absurd (cc)
+by_sub : (t u v w x : Bool) (a b c d e : Shape) (words : List Text) → Asks a words → Asks b words → Asks c words → Asks d words → Asks e words
+    → is_some (option_map (λ s. rows_at s words) (sub_of t u v w x a b c d e)) ≡ true → option_map_or (λ s. level_fault s [] nothing_held words false []) (sub_of t u v w x a b c d e) [] ≡ []
+    → (y : Asked) × (option_and_then (λ (s : Text × List Row). asked_by s.0 s.1) (option_map (λ s. rows_at s words) (sub_of t u v w x a b c d e)) ≡ Some y) × IsInRange y
+by_sub true u v w x a b c d e words f g h i j some none = f none
+by_sub false true v w x a b c d e words f g h i j some none = g none
+by_sub false false true w x a b c d e words f g h i j some none = h none
+by_sub false false false true x a b c d e words f g h i j some none = i none
+by_sub false false false false true a b c d e words f g h i j some none = j none
+by_sub false false false false false a b c d e words f g h i j some none = absurd (cc)
 
 given_by : (t : Bool) → check_kinds false false (true && (false || ((true && not t) || false))) ≡ [] → t ≡ true
 given_by true e = refl
@@ -101,6 +102,9 @@ made a = built_leaf (inherited above a.top)
 pub lanes_value : Text → Bool
 lanes_value = accepts false (from_to 1 most_lanes)
 
+workers_value : Text → Bool
+workers_value = accepts false (from_to 1 most_workers)
+
 stop_value : Text → Bool
 stop_value = accepts false (from_to 1 4294967295)
 
@@ -120,40 +124,64 @@ lanes_within : (o : Option ℕ) → IfSome o (λ n. (1 ≤ n) × (n ≤ most_lan
 lanes_within None h = (omega arith, omega arith)
 lanes_within (Some n) h = h
 
+workers_within : (o : Option ℕ) → IfSome o (λ n. (1 ≤ n) × (n ≤ most_workers)) → (1 ≤ unwrap_or o 4) × (unwrap_or o 4 ≤ most_workers)
+workers_within None h = (omega arith, omega arith)
+workers_within (Some n) h = h
+
 stop_within : (o : Option ℕ) → IfSome o (λ n. (1 ≤ n) × (n ≤ 4294967295)) → IfSome o (λ n. 1 ≤ n)
 stop_within None h = tt
 stop_within (Some n) h = h.0
 
-in_ranges : (rows : List Row) → HasValue (codes "lanes") lanes_value rows → HasValue (codes "stop-after") stop_value rows → HasRanges (options_of rows)
-unfolding lanes_value stop_value
-in_ranges rows lanes_good stop_good =
+in_ranges : (rows : List Row) → HasValue (codes "lanes") lanes_value rows → HasValue (codes "workers") workers_value rows → HasValue (codes "stop-after") stop_value rows → HasRanges (options_of rows)
+unfolding lanes_value workers_value stop_value
+in_ranges rows lanes_good workers_good stop_good =
     let l = lanes_within (number_of rows (codes "lanes")) (number_in_range 1 most_lanes (codes "lanes") rows (omega arith) (omega arith) lanes_good) in
+    let w = workers_within (number_of rows (codes "workers")) (number_in_range 1 most_workers (codes "workers") rows (omega arith) (omega arith) workers_good) in
     record {
       least_lanes = l.0;
       most_lanes = l.1;
+      least_workers = w.0;
+      most_workers = w.1;
       stop_after = stop_within (number_of rows (codes "stop-after")) (number_in_range 1 4294967295 (codes "stop-after") rows (omega arith) (omega arith) stop_good);
     }
 
-ranges_of : (s : Shape) (words : List Text) → s.args_override_self ≡ false → AllPlain (codes "lanes") lanes_value s.rules → AllPlain (codes "stop-after") stop_value s.rules
-    → level_fault s [] nothing_held words false [] ≡ [] → HasRanges (options_of (rows_after s.rules [] words))
-ranges_of s words single lanes_plain stop_plain none = in_ranges (rows_after s.rules [] words) (level_passes (codes "lanes") lanes_value s words single lanes_plain none).0 (level_passes (codes "stop-after") stop_value s words single stop_plain none).0
+-- the rules of a command are plain for each number of `serve`
+record ArePlain (s : Shape) : Type 0 where
+  lanes : AllPlain (codes "lanes") lanes_value s.rules
+  workers : AllPlain (codes "workers") workers_value s.rules
+  stop : AllPlain (codes "stop-after") stop_value s.rules
+
+ranges_of : (s : Shape) (words : List Text) → s.args_override_self ≡ false → ArePlain s → level_fault s [] nothing_held words false [] ≡ [] → HasRanges (options_of (rows_after s.rules [] words))
+ranges_of s words single plain none =
+    in_ranges (rows_after s.rules [] words) (level_passes (codes "lanes") lanes_value s words single plain.lanes none).0 (level_passes (codes "workers") workers_value s words single plain.workers none).0
+    (level_passes (codes "stop-after") stop_value s words single plain.stop none).0
 
 pub once_lanes : AllPlain (codes "lanes") lanes_value (made once).rules
 once_lanes = (record { sets = refl; one = refl; passes = λ e v. absurd (cc); defaults = refl }, tt)
+
+once_workers : AllPlain (codes "workers") workers_value (made once).rules
+once_workers = (record { sets = refl; one = refl; passes = λ e v. absurd (cc); defaults = refl }, tt)
 
 once_stop : AllPlain (codes "stop-after") stop_value (made once).rules
 once_stop = (record { sets = refl; one = refl; passes = λ e v. absurd (cc); defaults = refl }, tt)
 
 pub serve_lanes : AllPlain (codes "lanes") lanes_value (made serve).rules
 unfolding lanes_value
-serve_lanes = (record { sets = refl; one = refl; passes = λ e v. absurd (cc); defaults = refl }, (record { sets = refl; one = refl; passes = λ e v. refl; defaults = refl }, (record { sets = refl; one = refl; passes = λ e v. absurd (cc); defaults = refl }, tt)))
+serve_lanes = (record { sets = refl; one = refl; passes = λ e v. absurd (cc); defaults = refl }, (record { sets = refl; one = refl; passes = λ e v. refl; defaults = refl }, (record { sets = refl; one = refl; passes = λ e v. absurd (cc); defaults = refl }, (record { sets = refl; one = refl; passes = λ e v. absurd (cc); defaults = refl }, tt))))
+
+serve_workers : AllPlain (codes "workers") workers_value (made serve).rules
+unfolding workers_value
+serve_workers = (record { sets = refl; one = refl; passes = λ e v. absurd (cc); defaults = refl }, (record { sets = refl; one = refl; passes = λ e v. absurd (cc); defaults = refl }, (record { sets = refl; one = refl; passes = λ e v. refl; defaults = refl }, (record { sets = refl; one = refl; passes = λ e v. absurd (cc); defaults = refl }, tt))))
 
 serve_stop : AllPlain (codes "stop-after") stop_value (made serve).rules
 unfolding stop_value
-serve_stop = (record { sets = refl; one = refl; passes = λ e v. absurd (cc); defaults = refl }, (record { sets = refl; one = refl; passes = λ e v. absurd (cc); defaults = refl }, (record { sets = refl; one = refl; passes = λ e v. refl; defaults = refl }, tt)))
+serve_stop = (record { sets = refl; one = refl; passes = λ e v. absurd (cc); defaults = refl }, (record { sets = refl; one = refl; passes = λ e v. absurd (cc); defaults = refl }, (record { sets = refl; one = refl; passes = λ e v. absurd (cc); defaults = refl }, (record { sets = refl; one = refl; passes = λ e v. refl; defaults = refl }, tt))))
 
 pub load_lanes : AllPlain (codes "lanes") lanes_value (made load).rules
 load_lanes = (record { sets = refl; one = refl; passes = λ e v. absurd (cc); defaults = refl }, (record { sets = refl; one = refl; passes = λ e v. absurd (cc); defaults = refl }, tt))
+
+load_workers : AllPlain (codes "workers") workers_value (made load).rules
+load_workers = (record { sets = refl; one = refl; passes = λ e v. absurd (cc); defaults = refl }, (record { sets = refl; one = refl; passes = λ e v. absurd (cc); defaults = refl }, tt))
 
 load_stop : AllPlain (codes "stop-after") stop_value (made load).rules
 load_stop = (record { sets = refl; one = refl; passes = λ e v. absurd (cc); defaults = refl }, (record { sets = refl; one = refl; passes = λ e v. absurd (cc); defaults = refl }, tt))
@@ -161,20 +189,36 @@ load_stop = (record { sets = refl; one = refl; passes = λ e v. absurd (cc); def
 pub relay_lanes : AllPlain (codes "lanes") lanes_value (made relay).rules
 relay_lanes = (record { sets = refl; one = refl; passes = λ e v. absurd (cc); defaults = refl }, tt)
 
+relay_workers : AllPlain (codes "workers") workers_value (made relay).rules
+relay_workers = (record { sets = refl; one = refl; passes = λ e v. absurd (cc); defaults = refl }, tt)
+
 relay_stop : AllPlain (codes "stop-after") stop_value (made relay).rules
 relay_stop = (record { sets = refl; one = refl; passes = λ e v. absurd (cc); defaults = refl }, tt)
 
+pub check_lanes : AllPlain (codes "lanes") lanes_value (made check).rules
+check_lanes = (record { sets = refl; one = refl; passes = λ e v. absurd (cc); defaults = refl }, tt)
+
+check_workers : AllPlain (codes "workers") workers_value (made check).rules
+check_workers = (record { sets = refl; one = refl; passes = λ e v. absurd (cc); defaults = refl }, tt)
+
+check_stop : AllPlain (codes "stop-after") stop_value (made check).rules
+check_stop = (record { sets = refl; one = refl; passes = λ e v. absurd (cc); defaults = refl }, tt)
+
 asks_once : (words : List Text) → Asks (made once) words
 asks_once words none =
-    (Once (options_of (rows_after (made once).rules [] words)), refl, ranges_of (made once) words refl once_lanes once_stop none)
+    (Once (options_of (rows_after (made once).rules [] words)), refl, ranges_of (made once) words refl (record { lanes = once_lanes; workers = once_workers; stop = once_stop }) none)
 
 asks_serve : (words : List Text) → Asks (made serve) words
 asks_serve words none =
-    (Serve (options_of (rows_after (made serve).rules [] words)), refl, ranges_of (made serve) words refl serve_lanes serve_stop none)
+    (Serve (options_of (rows_after (made serve).rules [] words)), refl, ranges_of (made serve) words refl (record { lanes = serve_lanes; workers = serve_workers; stop = serve_stop }) none)
 
 asks_relay : (words : List Text) → Asks (made relay) words
 asks_relay words none =
-    (Relay (options_of (rows_after (made relay).rules [] words)), refl, ranges_of (made relay) words refl relay_lanes relay_stop none)
+    (Relay (options_of (rows_after (made relay).rules [] words)), refl, ranges_of (made relay) words refl (record { lanes = relay_lanes; workers = relay_workers; stop = relay_stop }) none)
+
+asks_check : (words : List Text) → Asks (made check) words
+asks_check words none =
+    (Check (options_of (rows_after (made check).rules [] words)), refl, ranges_of (made check) words refl (record { lanes = check_lanes; workers = check_workers; stop = check_stop }) none)
 
 pub load_plain : AllPlain (codes "count") load_count (made load).rules
 unfolding load_count
@@ -188,12 +232,13 @@ asks_load words none =
     let given = given_by (is_given (codes "count") rows) level.1 in
     let v = given_value (codes "count") load_count rows _ refl given level.0 in
     let n = number_accepted 1 10000 v.0 (omega arith) (omega arith) v.2 in
-    (Load (options_of rows) n.0, ap (option_map (Load (options_of rows))) (counted rows v.0 n.0 v.1 n.1), (ranges_of (made load) words refl load_lanes load_stop none, n.2, n.3))
+    (Load (options_of rows) n.0, ap (option_map (Load (options_of rows))) (counted rows v.0 n.0 v.1 n.1), (ranges_of (made load) words refl (record { lanes = load_lanes; workers = load_workers; stop = load_stop }) none, n.2, n.3))
 
 stop_some : (stop : Option (Text × List Text)) → is_some (entered (built commands) stop) ≡ true → entered_fault (built commands) stop ≡ [] → (x : Asked) × (option_and_then (λ (s : Text × List Row). asked_by s.0 s.1) (entered (built commands) stop) ≡ Some x) × IsInRange x
 stop_some None some none = absurd (cc)
-stop_some (Some p) some none = by_sub (answers_to p.0 (label_of (made once))) (answers_to p.0 (label_of (made serve))) (answers_to p.0 (label_of (made load))) (answers_to p.0 (label_of (made relay))) (made once) (made serve) (made load) (made relay) p.1
-    (asks_once p.1) (asks_serve p.1) (asks_load p.1) (asks_relay p.1) some none
+stop_some (Some p) some none =
+    by_sub (answers_to p.0 (label_of (made once))) (answers_to p.0 (label_of (made serve))) (answers_to p.0 (label_of (made load))) (answers_to p.0 (label_of (made relay))) (answers_to p.0 (label_of (made check)))
+    (made once) (made serve) (made load) (made relay) (made check) p.1 (asks_once p.1) (asks_serve p.1) (asks_load p.1) (asks_relay p.1) (asks_check p.1) some none
 
 -- the last check is of the subcommand alone
 sub_wanted : (t : Bool) → check_kinds (not t && false) (not t && true) (true && false) ≡ [] → t ≡ true

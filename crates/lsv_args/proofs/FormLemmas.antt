@@ -10,8 +10,8 @@ use Rattle.clap.specs.Simple.{Shape, entered, filled, names_of}
 use Rattle.clap.specs.ValueTests.{accepts}
 use Rattle.clap.specs.Walk.{Row, Rule, Text, Walk, bundle_met, first_of, has_row, nothing_held, rows_after, settled, walk, walk_from, walked}
 use Rattle.clap.specs.declared.builder.action.ArgAction.{ArgAction}
-use Rattle.lsv_args.specs.Commands.{commands, conf, from_to, lanes, most_lanes, serve, stop_after}
-use Rattle.lsv_args.specs.Forms.{File, Given, Lanes, StopAfter, file_in, is_good, is_once, is_other, is_value, lanes_in, stop_after_in, told, words_in}
+use Rattle.lsv_args.specs.Commands.{commands, conf, from_to, lanes, most_lanes, most_workers, serve, stop_after, workers}
+use Rattle.lsv_args.specs.Forms.{File, Given, Lanes, StopAfter, Workers, file_in, is_good, is_once, is_other, is_value, lanes_in, stop_after_in, told, words_in, workers_in}
 use Rattle.lsv_args.specs.Reading.{Options, Serve, asked, asked_by, number_in, options_of}
 use Rattle.lsv_args.proofs.Asked.{defaults_none, lanes_value, made, serve_lanes}
 use Rattle.lsv_args.proofs.Options.{Reads, Taken, adds_row, at, both_true, by_walk, defaults_free, held, more_taken, not_true, row_of, stopped_fault, stopped_walk, valued_as, valued_none, whole}
@@ -25,21 +25,25 @@ served = made serve
 abbrev rule_of : Given → Rule
 rule_of (File v) = filled conf
 rule_of (Lanes v) = filled lanes
+rule_of (Workers v) = filled workers
 rule_of (StopAfter v) = filled stop_after
 
 abbrev name_of : Given → Text
 name_of (File v) = codes "-f"
 name_of (Lanes v) = codes "--lanes"
+name_of (Workers v) = codes "--workers"
 name_of (StopAfter v) = codes "--stop-after"
 
 abbrev value_of : Given → Text
 value_of (File v) = v
 value_of (Lanes v) = v
+value_of (Workers v) = v
 value_of (StopAfter v) = v
 
 words_front : (g : Given) (more : List Given) → words_in (g ∷ more) ≡ name_of g ∷ value_of g ∷ words_in more
 words_front (File v) more = refl
 words_front (Lanes v) more = refl
+words_front (Workers v) more = refl
 words_front (StopAfter v) more = refl
 
 reads : (g : Given) → is_good g ≡ true → Reads served 1 (rule_of g) (name_of g) (value_of g)
@@ -63,6 +67,17 @@ reads (Lanes (b ∷ bytes)) good =
       valued_fault = valued_none served 1 (codes "lanes") b bytes e (λ rows. refl);
       settles = λ rows fresh. let good = parts.1 in rw (fresh, good) refl;
       adds = λ rows fresh. adds_row (filled lanes) (b ∷ bytes) rows refl fresh;
+    }
+reads (Workers []) good = absurd (cc)
+reads (Workers (b ∷ bytes)) good =
+    let parts = both_true (is_value (b ∷ bytes)) (accepts false (from_to 1 most_workers) (b ∷ bytes)) good in
+    let e = not_true (b == 45) parts.0 in record {
+      named = λ rows pending. refl;
+      named_fault = λ rows pending. refl;
+      valued = valued_as served 1 (codes "workers") b bytes e (λ rows. refl);
+      valued_fault = valued_none served 1 (codes "workers") b bytes e (λ rows. refl);
+      settles = λ rows fresh. let good = parts.1 in rw (fresh, good) refl;
+      adds = λ rows fresh. adds_row (filled workers) (b ∷ bytes) rows refl fresh;
     }
 reads (StopAfter []) good = absurd (cc)
 reads (StopAfter (b ∷ bytes)) good =
@@ -98,23 +113,37 @@ has_push id (x ∷ rows) r e f = either (bytes_eq x.id id) (has_row id rows) (ha
 other_id : (g x : Given) (more : List Given) → is_other g (x ∷ more) ≡ true → bytes_eq (rule_of g).id (rule_of x).id ≡ false
 other_id (File v) (File w) more e = absurd (cc)
 other_id (File v) (Lanes w) more e = refl
+other_id (File v) (Workers w) more e = refl
 other_id (File v) (StopAfter w) more e = refl
 other_id (Lanes v) (File w) more e = refl
 other_id (Lanes v) (Lanes w) more e = absurd (cc)
+other_id (Lanes v) (Workers w) more e = refl
 other_id (Lanes v) (StopAfter w) more e = refl
+other_id (Workers v) (File w) more e = refl
+other_id (Workers v) (Lanes w) more e = refl
+other_id (Workers v) (Workers w) more e = absurd (cc)
+other_id (Workers v) (StopAfter w) more e = refl
 other_id (StopAfter v) (File w) more e = refl
 other_id (StopAfter v) (Lanes w) more e = refl
+other_id (StopAfter v) (Workers w) more e = refl
 other_id (StopAfter v) (StopAfter w) more e = absurd (cc)
 
 other_more : (g x : Given) (more : List Given) → is_other g (x ∷ more) ≡ true → is_other g more ≡ true
 other_more (File v) (File w) more e = absurd (cc)
 other_more (File v) (Lanes w) more e = e
+other_more (File v) (Workers w) more e = e
 other_more (File v) (StopAfter w) more e = e
 other_more (Lanes v) (File w) more e = e
 other_more (Lanes v) (Lanes w) more e = absurd (cc)
+other_more (Lanes v) (Workers w) more e = e
 other_more (Lanes v) (StopAfter w) more e = e
+other_more (Workers v) (File w) more e = e
+other_more (Workers v) (Lanes w) more e = e
+other_more (Workers v) (Workers w) more e = absurd (cc)
+other_more (Workers v) (StopAfter w) more e = e
 other_more (StopAfter v) (File w) more e = e
 other_more (StopAfter v) (Lanes w) more e = e
+other_more (StopAfter v) (Workers w) more e = e
 other_more (StopAfter v) (StopAfter w) more e = absurd (cc)
 
 fresh_more : (g : Given) (rows : List Row) (more : List Given) → AreFresh rows more → is_other g more ≡ true → AreFresh (rows ++ row g ∷ []) more
@@ -157,7 +186,7 @@ walk_taken (g ∷ more) all once =
 serve_level : (given : List Given) → list_all is_good given ≡ true → is_once given ≡ true → level_fault served [] nothing_held (words_in given) false [] ≡ []
 serve_level given all once =
     let t = walk_taken given all once in
-    ap₂ or_else t.no_fault (ap₂ or_else t.settles (ap₂ or_else (defaults_free (settled served.rules (walk served.rules [] nothing_held (words_in given)).held).rows served.rules (refl, (refl, (refl, tt)))) refl))
+    ap₂ or_else t.no_fault (ap₂ or_else t.settles (ap₂ or_else (defaults_free (settled served.rules (walk served.rules [] nothing_held (words_in given)).held).rows served.rules (refl, (refl, (refl, (refl, tt))))) refl))
 
 serve_rows : (given : List Given) → list_all is_good given ≡ true → is_once given ≡ true → rows_after served.rules [] (words_in given) ≡ rows_of given
 serve_rows given all once =
@@ -167,32 +196,45 @@ file_row : (given : List Given) → first_of (codes "conf") (rows_of given) ≡ 
 file_row [] = refl
 file_row (File v ∷ more) = refl
 file_row (Lanes v ∷ more) = file_row more
+file_row (Workers v ∷ more) = file_row more
 file_row (StopAfter v ∷ more) = file_row more
 
 lanes_row : (given : List Given) → first_of (codes "lanes") (rows_of given) ≡ lanes_in given
 lanes_row [] = refl
 lanes_row (File v ∷ more) = lanes_row more
 lanes_row (Lanes v ∷ more) = refl
+lanes_row (Workers v ∷ more) = lanes_row more
 lanes_row (StopAfter v ∷ more) = lanes_row more
+
+workers_row : (given : List Given) → first_of (codes "workers") (rows_of given) ≡ workers_in given
+workers_row [] = refl
+workers_row (File v ∷ more) = workers_row more
+workers_row (Lanes v ∷ more) = workers_row more
+workers_row (Workers v ∷ more) = refl
+workers_row (StopAfter v ∷ more) = workers_row more
 
 stop_after_row : (given : List Given) → first_of (codes "stop-after") (rows_of given) ≡ stop_after_in given
 stop_after_row [] = refl
 stop_after_row (File v ∷ more) = stop_after_row more
 stop_after_row (Lanes v ∷ more) = stop_after_row more
+stop_after_row (Workers v ∷ more) = stop_after_row more
 stop_after_row (StopAfter v ∷ more) = refl
 
-abbrev told_by : Option Text → Option Text → Option Text → Options
-told_by file lanes stop = record {
+abbrev told_by : Option Text → Option Text → Option Text → Option Text → Options
+told_by file lanes workers stop = record {
   conf = unwrap_or file (codes "/etc/sudo_logsrvd.conf");
   lanes = unwrap_or (option_and_then number_in lanes) 1;
+  workers = unwrap_or (option_and_then number_in workers) 4;
   stop_after = option_and_then number_in stop;
 }
 
 options_told : (given : List Given) → options_of (rows_of given) ≡ told given
 options_told given =
-    ap (λ (f : Option Text). told_by f (first_of (codes "lanes") (rows_of given)) (first_of (codes "stop-after") (rows_of given))) (file_row given)
-    ∙ ap (λ (l : Option Text). told_by (file_in given) l (first_of (codes "stop-after") (rows_of given))) (lanes_row given)
-    ∙ ap (λ (x : Option Text). told_by (file_in given) (lanes_in given) x) (stop_after_row given)
+    let rows = rows_of given in
+    ap (λ (f : Option Text). told_by f (first_of (codes "lanes") rows) (first_of (codes "workers") rows) (first_of (codes "stop-after") rows)) (file_row given)
+    ∙ ap (λ (l : Option Text). told_by (file_in given) l (first_of (codes "workers") rows) (first_of (codes "stop-after") rows)) (lanes_row given)
+    ∙ ap (λ (w : Option Text). told_by (file_in given) (lanes_in given) w (first_of (codes "stop-after") rows)) (workers_row given)
+    ∙ ap (λ (x : Option Text). told_by (file_in given) (lanes_in given) (workers_in given) x) (stop_after_row given)
 
 -- ---- the words with the command in front
 

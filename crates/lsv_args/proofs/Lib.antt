@@ -1,9 +1,10 @@
-pub mod Asked
 mod Building
-mod Numbers
-mod Parsed
-mod Walks
-mod Options
+mod CheckForms
 mod FormLemmas
+mod Numbers
+mod Options
 mod OtherForms
+mod Parsed
 mod RelayForms
+mod Walks
+pub mod Asked

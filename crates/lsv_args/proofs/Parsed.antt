@@ -68,8 +68,8 @@ pub texts_more : (texts : List (Bor (List ℕ))) (words : List (List ℕ)) (k : 
 texts_more texts words k text word lt so_far is at =
     map-append (λ t. t.now) texts (text ∷ []) ∙ ap (λ ws. ws ++ text.now ∷ []) so_far ∙ ap (λ w. take k words ++ w ∷ []) (is ∙ at) ∙ sym (take_more words k word lt)
 
-abbrev pub options : List ℕ → ℕ → Option ℕ → Options
-options c l s = record { conf = c; lanes = l; stop_after = s }
+abbrev pub options : List ℕ → ℕ → ℕ → Option ℕ → Options
+options c l w s = record { conf = c; lanes = l; workers = w; stop_after = s }
 
-pub options_same : (c d : List ℕ) (l m : ℕ) (s t : Option ℕ) → c ≡ d → l ≡ m → s ≡ t → options c l s ≡ options d m t
-options_same c d l m s t p q r = rw (p, q, r) refl
+pub options_same : (c d : List ℕ) (l m w v : ℕ) (s t : Option ℕ) → c ≡ d → l ≡ m → w ≡ v → s ≡ t → options c l w s ≡ options d m v t
+options_same c d l m w v s t p q x r = rw (p, q, x, r) refl

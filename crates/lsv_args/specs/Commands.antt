@@ -11,7 +11,11 @@ from_to low high = Signed (pos low) (pos high)
 
 -- how many lanes may be asked for
 abbrev pub most_lanes : ℕ
-most_lanes = 4
+most_lanes = 8
+
+-- how many workers may be asked for
+abbrev pub most_workers : ℕ
+most_workers = 64
 
 -- `-f FILE`
 abbrev pub conf : Rule
@@ -20,6 +24,10 @@ conf = record (new_rule (codes "conf")) { short = Some 102 }
 -- `--lanes N`
 abbrev pub lanes : Rule
 lanes = record (new_rule (codes "lanes")) { long = Some (codes "lanes"); parser = Some (from_to 1 most_lanes) }
+
+-- `--workers N`
+abbrev pub workers : Rule
+workers = record (new_rule (codes "workers")) { long = Some (codes "workers"); parser = Some (from_to 1 most_workers) }
 
 -- `--stop-after N`
 abbrev pub stop_after : Rule
@@ -33,13 +41,17 @@ count = record (new_rule (codes "count")) { required = true; parser = Some (from
 abbrev pub once : App
 once = with_rule (new_app (codes "once")) conf
 
--- `serve [-f FILE] [--lanes N] [--stop-after N]`
+-- `serve [-f FILE] [--lanes N] [--workers N] [--stop-after N]`
 abbrev pub serve : App
-serve = with_rule (with_rule (with_rule (new_app (codes "serve")) conf) lanes) stop_after
+serve = with_rule (with_rule (with_rule (with_rule (new_app (codes "serve")) conf) lanes) workers) stop_after
 
 -- `relay [-f FILE]`
 abbrev pub relay : App
 relay = with_rule (new_app (codes "relay")) conf
+
+-- `check [-f FILE]`
+abbrev pub check : App
+check = with_rule (new_app (codes "check")) conf
 
 -- `load [-f FILE] N`
 abbrev pub load : App
@@ -53,4 +65,4 @@ program = let a = new_app (codes "sudo_logsrvd") in record a {
 
 -- the commands
 abbrev pub commands : App
-commands = with_subcommand (with_subcommand (with_subcommand (with_subcommand program once.top) serve.top) load.top) relay.top
+commands = with_subcommand (with_subcommand (with_subcommand (with_subcommand (with_subcommand program once.top) serve.top) load.top) relay.top) check.top

@@ -11,6 +11,8 @@ pub struct Opts {
     pub conf: Bytes,
     /// How many lanes there are.
     pub lanes: u32,
+    /// How many workers there are.
+    pub workers: u32,
     /// After how many connections the server stops, if it does.
     pub stop_after: Option<u32>,
     pub ghost conf_is_text: { IsTrue (is_utf8 conf) },
@@ -25,6 +27,8 @@ pub enum Command {
     Serve(Opts),
     /// Sends stored logs to another server.
     Relay(Opts),
+    /// Reads the settings, and no more.
+    Check(Opts),
     /// This many generated connections.
     Load(Opts, u32),
 }

@@ -1,13 +1,15 @@
 ghost use Rattle.std.specs.Prelude.{◌≡◌, false, IfOk};
 ghost use Rattle.clap.specs.Words.{app_of, rule_of};
 ghost use Rattle.clap.specs.declared.builder.command.Command.TheViews.{out-Command};
-ghost use Rattle.lsv_args.specs.Commands.{commands, conf, count, lanes, load, once, relay, serve, stop_after};
+ghost use Rattle.lsv_args.specs.Commands.{check, commands, conf, count, lanes, load, once, relay, serve, stop_after, workers};
 
 use clap::{Arg, Command, value_parser};
 use std::alloc::{AllocError, Global};
 
 /// This many lanes may be asked for.
-pub const MOST_LANES: i64 = 4;
+pub const MOST_LANES: i64 = 8;
+/// This many workers may be asked for.
+pub const MOST_WORKERS: i64 = 64;
 /// This many generated connections may be asked for.
 const MOST_CONNECTIONS: i64 = 10_000;
 
@@ -27,6 +29,16 @@ fn lanes<'a>(alloc: Global) -> Arg<'a>
     Arg::new(alloc, "lanes")
         .long("lanes")
         .value_parser(value_parser!(u32).range(1..=MOST_LANES))
+}
+
+/// `--workers N`
+fn workers<'a>(alloc: Global) -> Arg<'a>
+    ensures rule { rule_of result ≡ workers }
+    ensures local { result.global ≡ false }
+{
+    Arg::new(alloc, "workers")
+        .long("workers")
+        .value_parser(value_parser!(u32).range(1..=MOST_WORKERS))
 }
 
 /// `--stop-after N`
@@ -56,13 +68,14 @@ fn once<'a>(alloc: Global) -> Result<Command<'a>, AllocError>
     Command::new(alloc, "once").arg(conf(alloc))
 }
 
-/// `serve [-f FILE] [--lanes N] [--stop-after N]`
+/// `serve [-f FILE] [--lanes N] [--workers N] [--stop-after N]`
 fn serve<'a>(alloc: Global) -> Result<Command<'a>, AllocError>
     ensures { IfOk result (λ c. (app_of c ≡ serve) × ((out-Command c).has_globals ≡ false)) }
 {
     Command::new(alloc, "serve")
         .arg(conf(alloc))?
         .arg(lanes(alloc))?
+        .arg(workers(alloc))?
         .arg(stop_after(alloc))
 }
 
@@ -82,6 +95,13 @@ fn relay<'a>(alloc: Global) -> Result<Command<'a>, AllocError>
     Command::new(alloc, "relay").arg(conf(alloc))
 }
 
+/// `check [-f FILE]`
+fn check<'a>(alloc: Global) -> Result<Command<'a>, AllocError>
+    ensures { IfOk result (λ c. (app_of c ≡ check) × ((out-Command c).has_globals ≡ false)) }
+{
+    Command::new(alloc, "check").arg(conf(alloc))
+}
+
 /// The commands of the program. There is no word for help or for the version.
 pub fn commands<'a>(alloc: Global) -> Result<Command<'a>, AllocError>
     ensures { IfOk result (λ c. app_of c ≡ commands) }
@@ -95,5 +115,6 @@ pub fn commands<'a>(alloc: Global) -> Result<Command<'a>, AllocError>
         .subcommand(once(alloc)?)?
         .subcommand(serve(alloc)?)?
         .subcommand(load(alloc)?)?
-        .subcommand(relay(alloc)?)
+        .subcommand(relay(alloc)?)?
+        .subcommand(check(alloc)?)
 }

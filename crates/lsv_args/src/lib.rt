@@ -7,6 +7,6 @@ mod forms;
 mod read;
 
 pub use command::{ArgFault, Command, Opts};
-pub use commands::MOST_LANES;
+pub use commands::{MOST_LANES, MOST_WORKERS};
 pub use forms::options_stand_in_any_order;
 pub use read::read_words;

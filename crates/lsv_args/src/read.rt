@@ -14,6 +14,9 @@ use lsv_base::{Bytes, List, NoMem};
 use std::alloc::{AllocError, Global};
 use std::str;
 
+/// This many workers serve where the words name none.
+const DEFAULT_WORKERS: u32 = 4;
+
 /// The settings file where the words name none.
 const DEFAULT_CONF: &str = "/etc/sudo_logsrvd.conf";
 
@@ -70,6 +73,7 @@ fn opts_of(alloc: Global, found: &ArgMatches<'_>) -> Result<Opts, NoMem>
     Ok(Opts {
         conf: Bytes::of(alloc, conf.as_bytes())?,
         lanes: number(found, "lanes").unwrap_or(1),
+        workers: number(found, "workers").unwrap_or(DEFAULT_WORKERS),
         stop_after: number(found, "stop-after"),
     })
 }
@@ -87,6 +91,7 @@ fn command_of(alloc: Global, name: &str, found: &ArgMatches<'_>) -> Result<Comma
             Ok(Command::Load(opts_of(alloc, found)?, count))
         }
         "relay" => Ok(Command::Relay(opts_of(alloc, found)?)),
+        "check" => Ok(Command::Check(opts_of(alloc, found)?)),
         _ => Err(ArgFault::Usage),
     }
 }

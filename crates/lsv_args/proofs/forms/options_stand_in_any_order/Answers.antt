@@ -1,3 +1,4 @@
+use Rattle.lsv_args.proofs.CheckForms.{check_asked, check_taken}
 use Rattle.lsv_args.proofs.FormLemmas.{serve_asked, serve_taken}
 use Rattle.lsv_args.proofs.OtherForms.{load_asked, load_taken, once_asked, once_taken}
 use Rattle.lsv_args.proofs.RelayForms.{relay_asked, relay_taken}
@@ -26,3 +27,9 @@ returns-clause-relay_taken c = relay_taken
 
 pub returns-clause-relay_asked : goal.returns-clause-relay_asked
 returns-clause-relay_asked c = relay_asked
+
+pub returns-clause-check_taken : goal.returns-clause-check_taken
+returns-clause-check_taken c = check_taken
+
+pub returns-clause-check_asked : goal.returns-clause-check_asked
+returns-clause-check_asked c = check_asked

@@ -11,8 +11,9 @@ invariant_of-result c = record { conf_is_text = ap is_utf8 c.in_ok-of.ensures �
 
 pub returns : goal.returns
 returns c =
-    options_same _ _ _ _ _ _
+    options_same _ _ _ _ _ _ _ _
     (c.in_ok-of.ensures ∙ c.as_bytes.ensures.value ∙ ap (λ (b : Bor (List ℕ)). b.now) c.unwrap_or-conf.ensures ∙ unwrapped c.get_str.result _
     ∙ ap (λ (o : Option (List ℕ)). unwrap_or o (codes "/etc/sudo_logsrvd.conf")) (c.get_str.ensures ∙ first_value-rows (found_of c.args.found.now) (codes "conf")))
     (c.unwrap_or.ensures ∙ ap (λ (o : Option ℕ). unwrap_or o 1) c.number.ensures)
-    c.number-2.ensures
+    (c.unwrap_or-2.ensures ∙ ap (λ (o : Option ℕ). unwrap_or o 4) c.number-2.ensures)
+    c.number-3.ensures
