@@ -1,5 +1,5 @@
 -- The frames of a step's messages, put together and written.
-use Rattle.std.proofs.Common.{◌≡◌, ◌<◌, ◌++◌, ◌∷◌, List, [], ℕ, zero, suc, length, take, get_or, refl, sym, ◌∙◌, ap, subst, append_assoc, append-nil, arith, Option, Some, None, IsSome, is_some, false}
+use Rattle.std.proofs.Common.{◌≡◌, ◌<◌, ◌-◌, ◌++◌, ◌∷◌, List, [], ℕ, zero, suc, length, take, get_or, refl, sym, ◌∙◌, ap, subst, append_assoc, append-nil, arith, Option, Some, None, IsSome, is_some, false}
 use Rattle.lsv_defs.specs.Pieces.{IsPrefix}
 use Rattle.lsv_wire.specs.Frame.{frame_of, IsMessage}
 use Rattle.lsv_wire.specs.declared.framing.TheConstants.{FRAME_LIMIT}
@@ -96,12 +96,13 @@ part_front bytes front ms (rest, is) p = record {
 }
 
 -- the link took no more
-pub put_halted : (tells whole : Type 0) (halt : Halt) (ms : List ClientMessage) (batch : Batch) (a b : LinkState) → IsBatch ms batch → WritesFront tells whole batch.bytes a b → (whole → ⊥) → ((n : ℕ) → halt ≡ halts.TooLong n → ⊥) → PutsMore (Some halt) tells ms a b
-put_halted tells whole halt ms batch a b is w not other = record {
+pub put_halted : (tells whole : Type 0) (n : ℕ) (halt : Halt) (ms : List ClientMessage) (batch : Batch) (a b : LinkState) → IsBatch ms batch → WritesFront tells whole n batch.bytes a b → n ≡ length ms - 1 → (whole → ⊥) → ((n : ℕ) → halt ≡ halts.TooLong n → ⊥) → PutsMore (Some halt) tells ms a b
+put_halted tells whole n halt ms batch a b is w count not other = record {
   bytes = w.front;
   puts = go halt other;
   less = λ h e. let less = w.less not in let most = bytes_most batch.bytes ms (batch_part ms batch batch.too_long refl is) in omega (arith, less, most);
   wrote = w.wrote;
+  renewed = λ t. let r = w.renewed t in omega (arith, r, count);
 }
   where
     part : PutsPart (Unit {0}) w.front ms
@@ -113,11 +114,11 @@ put_halted tells whole halt ms batch a b is w not other = record {
     go (halts.TooLong n) never = absurd (never n refl)
 
 -- all was written
-pub put_whole : (tells whole : Type 0) (ms : List ClientMessage) (batch : Batch) (a b : LinkState) → IsBatch ms batch → batch.too_long ≡ None → WritesFront tells whole batch.bytes a b → whole → PutsMore None tells ms a b
-put_whole tells whole ms batch a b is e w all = record { bytes = batch.bytes; puts = batch_whole ms batch e is; less = λ h e. absurd cc; wrote = λ t. subst (λ (x : List ℕ). Writes x a b) (w.all all) (w.wrote t) }
+pub put_whole : (tells whole : Type 0) (n : ℕ) (ms : List ClientMessage) (batch : Batch) (a b : LinkState) → IsBatch ms batch → batch.too_long ≡ None → WritesFront tells whole n batch.bytes a b → n ≡ length ms - 1 → whole → PutsMore None tells ms a b
+put_whole tells whole n ms batch a b is e w count all = record { bytes = batch.bytes; puts = batch_whole ms batch e is; less = λ h e. absurd cc; wrote = λ t. subst (λ (x : List ℕ). Writes x a b) (w.all all) (w.wrote t); renewed = λ t. let r = w.renewed t in omega (arith, r, count) }
 
-pub put_up_to : (tells whole : Type 0) (n : ℕ) (ms : List ClientMessage) (batch : Batch) (a b : LinkState) → IsBatch ms batch → batch.too_long ≡ Some n → WritesFront tells whole batch.bytes a b → whole → PutsMore (Some (halts.TooLong n)) tells ms a b
-put_up_to tells whole n ms batch a b is e w all = record { bytes = batch.bytes; puts = batch_up_to n ms batch e is; less = λ h k. up_to_less n batch.bytes ms (batch_up_to n ms batch e is); wrote = λ t. subst (λ (x : List ℕ). Writes x a b) (w.all all) (w.wrote t) }
+pub put_up_to : (tells whole : Type 0) (k n : ℕ) (ms : List ClientMessage) (batch : Batch) (a b : LinkState) → IsBatch ms batch → batch.too_long ≡ Some n → WritesFront tells whole k batch.bytes a b → k ≡ length ms - 1 → whole → PutsMore (Some (halts.TooLong n)) tells ms a b
+put_up_to tells whole k n ms batch a b is e w count all = record { bytes = batch.bytes; puts = batch_up_to n ms batch e is; less = λ h k. up_to_less n batch.bytes ms (batch_up_to n ms batch e is); wrote = λ t. subst (λ (x : List ℕ). Writes x a b) (w.all all) (w.wrote t); renewed = λ t. let r = w.renewed t in omega (arith, r, count) }
 
 -- one that is too long, whatever its length, ends the batch
 pub batch_ended_by : (ms : List ClientMessage) (i : ℕ) (m : ClientMessage) (batch : Batch) → i < length ms → m ≡ get_or ms i m → IsSome batch.too_long → IsBatch (take i ms ++ m ∷ []) batch → IsBatch ms batch

@@ -6,19 +6,19 @@ use Rattle.lsv_wire.specs.Frame.{frame_of, IsMessage}
 use Rattle.lsv_msg.specs.Messages.{client_bytes, server_in}
 use Rattle.lsv_msg.specs.declared.messages.ClientMessage.{ClientMessage}
 use Rattle.lsv_msg.specs.declared.messages.ServerMessage.{ServerMessage}
-use Rattle.lsv_dialogue.specs.Events.{HasHeard, frames_of}
+use Rattle.lsv_dialogue.specs.Events.{frames_of}
 
-flat_push : (frames : List (List ℕ)) (f : List ℕ) (rest : List ℕ) → flat_map frame_of (frames ++ f ∷ []) ++ rest ≡ flat_map frame_of frames ++ (frame_of f ++ rest)
+pub flat_push : (frames : List (List ℕ)) (f : List ℕ) (rest : List ℕ) → flat_map frame_of (frames ++ f ∷ []) ++ rest ≡ flat_map frame_of frames ++ (frame_of f ++ rest)
 flat_push [] f rest = ap (λ (x : List ℕ). x ++ rest) (append-nil (frame_of f))
 flat_push (g ∷ frames) f rest =
     append_assoc (frame_of g) (flat_map frame_of (frames ++ f ∷ [])) rest
     ∙ (ap (λ (x : List ℕ). frame_of g ++ x) (flat_push frames f rest) ∙ sym (append_assoc (frame_of g) (flat_map frame_of frames) (frame_of f ++ rest)))
 
-each_push : (frames : List (List ℕ)) (f : List ℕ) → AllByRecursion IsMessage frames → IsMessage f → AllByRecursion IsMessage (frames ++ f ∷ [])
+pub each_push : (frames : List (List ℕ)) (f : List ℕ) → AllByRecursion IsMessage frames → IsMessage f → AllByRecursion IsMessage (frames ++ f ∷ [])
 each_push [] f a b = (b, tt)
 each_push (g ∷ frames) f a b = (a.0, each_push frames f a.1 b)
 
-map_push : (frames : List (List ℕ)) (f : List ℕ) (ms : List ServerMessage) (m : ServerMessage) → map server_in frames ≡ map (λ x. Ok x) ms → server_in f ≡ Ok m → map server_in (frames ++ f ∷ []) ≡ map (λ x. Ok x) (ms ++ m ∷ [])
+pub map_push : (frames : List (List ℕ)) (f : List ℕ) (ms : List ServerMessage) (m : ServerMessage) → map server_in frames ≡ map (λ x. Ok x) ms → server_in f ≡ Ok m → map server_in (frames ++ f ∷ []) ≡ map (λ x. Ok x) (ms ++ m ∷ [])
 map_push [] f [] m a b = ap (λ x. x ∷ []) b
 map_push [] f (x ∷ ms) m a b = absurd (cc)
 map_push (g ∷ frames) f [] m a b = absurd (cc)
@@ -26,24 +26,6 @@ map_push (g ∷ frames) f (x ∷ ms) m a b =
     let p : server_in g ≡ Ok x = cc in
     let q : map server_in frames ≡ map (λ y. Ok y) ms = cc in
     ap (λ y. y ∷ map server_in (frames ++ f ∷ [])) p ∙ ap (λ y. Ok x ∷ y) (map_push frames f ms m q b)
-
--- the next frame is one message more
-pub hear_one : (input rest behind message : List ℕ) (before : List ServerMessage) (m : ServerMessage) → HasHeard input before rest → IsMessage message → rest ≡ frame_of message ++ behind → server_in message ≡ Ok m → HasHeard input (before ++ m ∷ []) behind
-hear_one input rest behind message before m h is e d = record {
-  frames = h.frames ++ message ∷ [];
-  whole = h.whole ∙ (ap (λ (x : List ℕ). flat_map frame_of h.frames ++ x) e ∙ sym (flat_push h.frames message behind));
-  each = each_push h.frames message h.each is;
-  are = map_push h.frames message before m h.are d;
-}
-
--- more was read
-pub hear_more : (input input' rest rest' more : List ℕ) (messages : List ServerMessage) → HasHeard input messages rest → input' ≡ input ++ more → rest' ≡ rest ++ more → HasHeard input' messages rest'
-hear_more input input' rest rest' more messages h i r = record {
-  frames = h.frames;
-  whole = i ∙ (ap (λ (x : List ℕ). x ++ more) h.whole ∙ (append_assoc (flat_map frame_of h.frames) rest more ∙ ap (λ (x : List ℕ). flat_map frame_of h.frames ++ x) (sym r)));
-  each = h.each;
-  are = h.are;
-}
 
 pub frames_append : (xs ys : List ClientMessage) → frames_of (xs ++ ys) ≡ frames_of xs ++ frames_of ys
 frames_append [] ys = refl

@@ -2,8 +2,15 @@ pub mod BatchLemmas
 pub mod EndLemmas
 pub mod EventLemmas
 pub mod FrameLemmas
+pub mod HearLemmas
 pub mod LinkLemmas
+pub mod LookLemmas
+pub mod OpenLemmas
+pub mod PieceLemmas
+pub mod ProgressLemmas
 pub mod PutLemmas
 pub mod ReadLemmas
+pub mod RoundLemmas
 pub mod RunLemmas
+pub mod SayLemmas
 pub mod StandLemmas

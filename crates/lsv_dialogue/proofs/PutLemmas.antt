@@ -1,11 +1,11 @@
 -- What was written of what was said, piece by piece.
-use Rattle.std.proofs.Common.{◌≡◌, ◌≤◌, ◌<◌, ◌++◌, ◌∷◌, List, [], ℕ, length, refl, sym, ◌∙◌, ap, subst, append_assoc, append-nil, length-append, arith, Option, Some, None}
+use Rattle.std.proofs.Common.{◌≡◌, ◌≤◌, ◌<◌, ◌++◌, ◌∷◌, List, [], ℕ, length, sym, ◌∙◌, ap, append_assoc, append-nil, length-append, arith, Option, Some, None}
 use Rattle.lsv_defs.specs.Pieces.{IsPrefix}
 use Rattle.lsv_wire.specs.Frame.{IsMessage}
 use Rattle.lsv_msg.specs.Messages.{client_bytes}
 use Rattle.lsv_msg.specs.declared.messages.ClientMessage.{ClientMessage}
 use Rattle.lsv_dialogue.specs.Events.{frames_of}
-use Rattle.lsv_dialogue.specs.Ends.{IsUnput}
+use Rattle.lsv_dialogue.specs.Rounds.{IsUnput}
 use Rattle.lsv_dialogue.specs.Puts.{AreSendable, PutsFirst, PutsPart, PutsUpTo, PutsWhole}
 use Rattle.lsv_dialogue.specs.Stands.{PutsBy}
 use Rattle.lsv_dialogue.specs.declared.talk.Halt.{Halt}

@@ -1,500 +1,393 @@
 -- How a conversation stands after each piece.
-use Rattle.std.proofs.Common.{◌≡◌, ◌≢◌, ◌≤◌, ◌<◌, ◌+◌, ◌++◌, ◌∷◌, List, [], ℕ, length, refl, sym, ◌∙◌, ap, subst, append_assoc, append-nil, length-append, arith, Bool, true, false, Option, Some, None, IfSome, unwrap_or, nat_eq, ◌⊎◌, inl, inr}
-use Rattle.std.proofs.lemmas.Bool.Decides.{nat_tests}
+use Rattle.std.proofs.Common.{◌≡◌, ◌≢◌, ◌≤◌, ◌<◌, ◌+◌, ◌++◌, ◌∷◌, List, [], ℕ, length, refl, sym, ◌∙◌, ap, subst, append-nil, length-append, arith, Bool, true, false, Option, Some, None, unwrap_or, ◌⊎◌, inl, inr}
 use Rattle.lsv_defs.specs.Pieces.{IsPrefix}
+use Rattle.lsv_wire.specs.Frame.{IsPartial}
 use Rattle.lsv_msg.specs.declared.messages.ClientMessage.{ClientMessage}
 use Rattle.lsv_msg.specs.declared.messages.ServerMessage.{ServerMessage}
 use Rattle.lsv_link.specs.declared.connection.Connection.{Connection}
-use Rattle.lsv_link.specs.Link.{Continues, IsConnected, LinkCounts, LinkState, open_of, unused}
-use Rattle.lsv_dialogue.specs.Events.{Event, AreGood, AreInTime, AreTaken, AtEach, HasBegun, HasHeard, HasPaused, Takes, all_said, as_heard, as_late, frames_of, heard, said, said_since, text_of}
-use Rattle.lsv_dialogue.specs.Puts.{ArePutFirst, PutsFirst, PutsPart, PutsWhole}
-use Rattle.lsv_dialogue.specs.Ends.{AreTimely, EndsBy, FailsBy, IsFresh, IsUnfinished, IsUnput, Matches, StaysOpen, Wants, WentOn}
-use Rattle.lsv_dialogue.specs.Stands.{Breaks, Finishes, HasLooked, HasPut, HasRead, IsGoing, IsHaltedBy, IsNext, IsTimelyBy, PutsBy, PutsMore, Stands, View, Writes, as_list, floor, halt_of, since}
+use Rattle.lsv_link.specs.declared.connection.Look.{Look}
+use Rattle.lsv_link.specs.Link.{Continues, LinkCounts, LinkState, open_of, unused}
+use Rattle.lsv_dialogue.specs.Events.{Event, AreGood, AreInTime, all_said, as_heard, as_late, heard, said, text_of}
+use Rattle.lsv_dialogue.specs.Hears.{AreInOrder, Hears, came_in_all}
+use Rattle.lsv_dialogue.specs.Progress.{one_if}
+use Rattle.lsv_dialogue.specs.Manner.{Manner}
+use Rattle.lsv_dialogue.specs.Puts.{ArePutFirst, PutsWhole}
+use Rattle.lsv_dialogue.specs.Rounds.{GoesInRounds, IsUnput}
+use Rattle.lsv_dialogue.specs.Taken.{Comes, Takes}
+use Rattle.lsv_dialogue.specs.Ends.{IsFresh, StaysOpen}
+use Rattle.lsv_dialogue.specs.Stands.{BeginsWith, HasLooked, HasRead, Holds, IsNew, Paused, PutsBy, Renews, Sends, Speaks, Stands, Stopped, Unheard, View, noted}
 use Rattle.lsv_dialogue.specs.declared.ends.TheConstants.{MOST_HEARD, MOST_PUT}
-use Rattle.lsv_dialogue.specs.declared.ends.Judged.{Judged}
 use Rattle.lsv_dialogue.specs.declared.ends.Judged.TheVariants as judged
-use Rattle.lsv_dialogue.specs.declared.ends.End.{End}
-use Rattle.lsv_dialogue.specs.declared.ends.TalkFault.{TalkFault}
-use Rattle.lsv_dialogue.specs.declared.ends.TalkFault.TheVariants as faults
-use Rattle.lsv_dialogue.specs.declared.read.Next.TheVariants as nexts
+use Rattle.lsv_dialogue.specs.declared.ends.Wants.TheVariants as wants
 use Rattle.lsv_dialogue.specs.declared.talk.TheConstants.{BUFFER}
 use Rattle.lsv_dialogue.specs.declared.talk.Halt.{Halt}
 use Rattle.lsv_dialogue.specs.declared.talk.Halt.TheVariants as halts
-use Rattle.lsv_dialogue.specs.declared.talk.Spoken.{Spoken}
 use Rattle.lsv_dialogue.specs.declared.talk.Spoken.TheVariants as spoken
 use Rattle.lsv_dialogue.specs.declared.talk.Talk.{Talk}
-use Rattle.lsv_dialogue.proofs.EventLemmas.{all_append, at_each_failed, at_each_late, at_each_map, at_each_step, good_got, heard_failed, heard_late, heard_step, in_time_failed, in_time_late, in_time_step, said_failed, said_late, said_step, since_step, some_more, some_said}
-use Rattle.lsv_dialogue.proofs.FrameLemmas.{hear_more}
+use Rattle.lsv_dialogue.proofs.EventLemmas.{all_append, at_each_heard, at_each_late, at_each_map, at_each_said, heard_heard, heard_late, heard_said, in_time_heard, in_time_said, late_more, late_none, said_heard, said_late, said_said, since_said}
+use Rattle.lsv_dialogue.proofs.HearLemmas.{hears_heard, hears_late, hears_looked, hears_next, hears_said, hears_same, unheard_heard, unheard_looked, unheard_next, unheard_partial, unheard_same}
 use Rattle.lsv_dialogue.proofs.LinkLemmas.{continues_same, continues_then, halted_before, halted_later, stays_same, stays_then}
-use Rattle.lsv_dialogue.proofs.PutLemmas.{by_part, first_later, first_whole, joined, joined_less, less_same, part_more, puts_same}
+use Rattle.lsv_dialogue.proofs.PutLemmas.{first_later, first_whole, joined, joined_less, less_same, puts_same}
+use Rattle.lsv_dialogue.proofs.RoundLemmas.{rounds_begin, rounds_heard, rounds_kept, rounds_late, rounds_late_look, rounds_looked, rounds_renewed, rounds_said}
 
-pub going_whole : (s : Spoken) (tells : Type 0) (output : List ℕ) (ms : List ClientMessage) → IsGoing s → PutsBy (halt_of s) tells output ms → PutsWhole tells output ms
-going_whole s tells output ms going puts = subst (λ h. PutsBy h tells output ms) going puts
+-- what was written first stays so when more is written
+pub firsts_later : (tells : Type 0) (output output' : List ℕ) (events : List Event) → (tells → IsPrefix output output') → ArePutFirst tells output events → ArePutFirst tells output' events
+firsts_later tells output output' events more a = at_each_map _ _ _ _ (λ before m p. first_later tells output output' (said before) more p) (λ before m p. tt) [] events a
 
--- a speaker that stopped at a halt
-pub halted_as : (s : Spoken) (halt : Halt) → halt_of s ≡ Some halt → s ≡ spoken.Halted halt
-halted_as spoken.Quiet halt e = absurd cc
-halted_as spoken.Owing halt e = absurd cc
-halted_as (spoken.Halted h) halt e = let x : h ≡ halt = cc in ap (λ y. spoken.Halted y) x
+no_more : (output output' : List ℕ) → output' ≡ output → IsPrefix output output'
+no_more output output' e = ([], e ∙ sym (append-nil output))
 
-halt_is_not : (s : Spoken) (halt : Halt) → s ≢ spoken.Halted halt → halt_of s ≢ Some halt
-halt_is_not s halt other e = other (halted_as s halt e)
+same_kept : (talk talk' : Talk) → talk' ≡ record talk { framer = talk'.framer; buffer = talk'.buffer } → (talk'.heard ≡ talk.heard) × (talk'.known ≡ talk.known) × (talk'.top ≡ talk.top) × (talk'.came ≡ talk.came)
+same_kept talk talk' is = (ap (λ (x : Talk). x.heard) is, ap (λ (x : Talk). x.known) is, ap (λ (x : Talk). x.top) is, ap (λ (x : Talk). x.came) is)
 
-pub quiet_is_not_halted : (halt : Halt) → spoken.Quiet ≡ spoken.Halted halt → ⊥
-quiet_is_not_halted halt e = cc
+-- ---- In all states
 
-pub going_is_not : (s : Spoken) (halt : Halt) → IsGoing s → s ≡ spoken.Halted halt → ⊥
-going_is_not s halt going e = absurd (let x : halt_of (spoken.Halted halt) ≡ None = ap halt_of (sym e) ∙ going in cc)
+module _ {S W F : Type 0} (manner : Manner S W F) (tells : Type 0) (begun : View) where
+  -- the message is one that the speaker takes
+  pub takes_one : (m : ServerMessage) (s : S) (w : W) (events : List Event) → manner.talks s w events → manner.wants s ≢ wants.Nothing → manner.judges s m ≡ judged.Takes → Comes manner events (Takes manner m)
+  takes_one m s w events talks wanting takes = record { speaker = s; world = w; talks = talks; is = record { wanting = wanting; takes = takes } }
 
-timely_any : (h : Option Halt) (events : List Event) → AreInTime events → IsTimelyBy h events
-timely_any None events t = t
-timely_any (Some halts.NotYet) events t = t
-timely_any (Some halts.Failed) events t = tt
-timely_any (Some (halts.TooLong n)) events t = t
+  pub at_most : (pending : List ServerMessage) (talk : Talk) (s : S) (w : W) (now : View) → (h : Holds manner tells begun pending talk s w now) → length (heard h.events) ≤ MOST_HEARD
+  at_most pending talk s w now h = let f = h.few in omega (arith, f, length-append (heard h.events) pending)
 
--- messages were late only if writing failed
-pub timely_or : (tells : Type 0) (output : List ℕ) (h : Option Halt) (before now : LinkCounts) (events : List Event) → ((halt : Halt) → h ≡ Some halt → IsHaltedBy before now halt) → ((halt : Halt) → h ≡ Some halt → IsUnput tells output (said events)) → IsTimelyBy h events → AreTimely tells output before now events
-timely_or tells output None before now events halted less t = inl t
-timely_or tells output (Some halts.NotYet) before now events halted less t = inl t
-timely_or tells output (Some halts.Failed) before now events halted less t = inr (halted halts.Failed refl, less halts.Failed refl)
-timely_or tells output (Some (halts.TooLong n)) before now events halted less t = inl t
-
--- ---- One conversation
-
-module _ {S W : Type 0} (T : S → W → List Event → Type 0) (J : S → ServerMessage → Judged) (Q : S → Type 0) (O : S → Bool) (tells : Type 0) (begun : View) where
-  -- fewer were said, too
-  pub lowered : (pending : List ServerMessage) (least low : ℕ) (talk : Talk) (s : S) (w : W) (now : View) → Stands T J Q O tells begun pending least talk s w now → low ≤ least → Stands T J Q O tells begun pending low talk s w now
-  lowered pending least low talk s w now st le = record {
-    events = st.events;
-    talks = st.talks;
-    taken = st.taken;
-    first = st.first;
-    timely = st.timely;
-    good = st.good;
-    count = st.count;
-    few = st.few;
-    many = let m = st.many in omega (arith, le, m);
-    some = st.some;
-    wants = st.wants;
-    puts = st.puts;
-    less = st.less;
-    quiet = st.quiet;
-    halted = st.halted;
-    full = st.full;
-    waits = st.waits;
-    hears = st.hears;
-    stays = st.stays;
-    made = st.made;
-    room = st.room;
-    continues = st.continues;
+  -- messages were said
+  holds_said : (ms : List ClientMessage) (talk : Talk) (s s' : S) (w w' : W) (a b : View) → (h : Holds manner tells begun [] talk s w a) → manner.talks s' w' (h.events ++ all_said ms)
+      → (tells → IsPrefix (open_of a.1).output (open_of b.1).output) → (tells → StaysOpen a.1 b.1) → (tells → (open_of b.1).input ≡ (open_of a.1).input) → (tells → (open_of b.1).looks ≡ (open_of a.1).looks) → Continues a.0 b.0
+      → GoesInRounds manner tells (open_of b.1) (h.events ++ all_said ms) → AreInTime h.events → Holds manner tells begun [] talk s' w' b
+  holds_said ms talk s s' w w' a b h talks written stays input looks continues rounds timely = record {
+    events = h.events ++ all_said ms;
+    talks = talks;
+    taken = at_each_said _ _ h.events ms h.taken;
+    first = at_each_said _ _ h.events ms (firsts_later tells (open_of a.1).output (open_of b.1).output h.events written h.first);
+    good = subst AreGood (sym (heard_said h.events ms)) h.good;
+    count = let c = h.count in let k = ap length (heard_said h.events ms) in omega (arith, c, k);
+    few = subst (λ (x : List ServerMessage). length (x ++ []) ≤ MOST_HEARD) (sym (heard_said h.events ms)) h.few;
+    hears = λ t. hears_said (open_of b.1) h.events ms [] talk.framer (hears_same (open_of a.1) (open_of b.1) h.events [] talk.framer (h.hears t) (input t) (looks t) (written t));
+    rounds = rounds;
+    late_last = late_none (h.events ++ all_said ms) (in_time_said h.events ms timely);
+    stays = λ t. stays_then begun.1 a.1 b.1 (h.stays t) (stays t);
+    made = λ t. (stays t).connected ∙ h.made t;
+    room = h.room;
+    continues = continues_then begun.0 a.0 b.0 h.continues continues;
   }
 
-  -- nothing more may be said, or at least sixteen messages were
-  pub paused : (pending : List ServerMessage) (least : ℕ) (talk : Talk) (s : S) (w : W) (now : View) → (st : Stands T J Q O tells begun pending least talk s w now) → floor talk.spoken ≤ least → IsGoing talk.spoken → HasPaused (Q s) st.events
-  paused pending least talk s w now st low going = go talk.spoken refl
-    where
-      go : (x : Spoken) → talk.spoken ≡ x → HasPaused (Q s) st.events
-      go spoken.Quiet e = inl (st.quiet e)
-      go spoken.Owing e = inr (let f = ap floor e in let m = st.many in omega (arith, f, m, low))
-      go (spoken.Halted halt) e = absurd (going_is_not talk.spoken halt going e)
+  -- the next message is pending
+  holds_next : (m : ServerMessage) (talk talk' : Talk) (s : S) (w : W) (a : View) → Holds manner tells begun [] talk s w a → BeginsWith m talk.framer talk'.framer → talk' ≡ record talk { framer = talk'.framer } → talk.heard < MOST_HEARD → Holds manner tells begun (m ∷ []) talk' s w a
+  holds_next m talk talk' s w a h next is more = record {
+    events = h.events;
+    talks = h.talks;
+    taken = h.taken;
+    first = h.first;
+    good = h.good;
+    count = ap (λ (x : Talk). x.heard) is ∙ h.count;
+    few = let c = h.count in omega (arith, c, more, length-append (heard h.events) (m ∷ []));
+    hears = λ t. hears_next (open_of a.1) h.events m talk.framer talk'.framer (h.hears t) next;
+    rounds = h.rounds;
+    late_last = h.late_last;
+    stays = h.stays;
+    made = h.made;
+    room = ap (λ (x : Talk). length x.buffer.items) is ∙ h.room;
+    continues = h.continues;
+  }
 
-  -- something was said, or nothing more may be
-  pub begun_by : (pending : List ServerMessage) (talk : Talk) (s : S) (w : W) (now : View) → (st : Stands T J Q O tells begun pending (floor talk.spoken) talk s w now) → HasBegun (Q s) st.events
-  begun_by pending talk s w now st = go talk.spoken refl
-    where
-      go : (x : Spoken) → talk.spoken ≡ x → HasBegun (Q s) st.events
-      go spoken.Quiet e = inl (st.quiet e)
-      go spoken.Owing e = inr (some_said st.events (let f = ap floor e in let m = st.many in omega (arith, f, m)))
-      go (spoken.Halted halt) e = inr (st.some halt e)
+  -- a read gave something or nothing
+  holds_read : (kept failed : Type 0) (wait : Bool) (talk talk' : Talk) (s : S) (w : W) (a b : View) → (h : Holds manner tells begun [] talk s w a) → kept → (read : HasRead tells kept failed wait talk.framer talk'.framer a.1 b.1) → ((failed → ⊥) ⊎ failed) → talk' ≡ record talk { framer = talk'.framer; buffer = talk'.buffer }
+      → length talk'.buffer.items ≡ BUFFER → Continues a.0 b.0 → GoesInRounds manner tells (open_of b.1) h.events → Holds manner tells begun [] talk' s w b
+  holds_read kept failed wait talk talk' s w a b h k read which is room continues rounds = record {
+    events = h.events;
+    talks = h.talks;
+    taken = h.taken;
+    first = firsts_later tells (open_of a.1).output (open_of b.1).output h.events (λ t. no_more (open_of a.1).output (open_of b.1).output (read.output t)) h.first;
+    good = h.good;
+    count = (same_kept talk talk' is).0 ∙ h.count;
+    few = h.few;
+    hears = λ t. elim which [
+      | inl not ↦ hears_looked tells t (open_of a.1) (open_of b.1) h.events talk.framer talk'.framer read.more wait (h.hears t) h.first (read.looked t not) (read.input t) (read.output t) (read.framer k)
+      | inr failed ↦ subst (λ (r : List ℕ). Hears (open_of b.1) h.events [] r) (sym (read.framer k ∙ (ap (λ (x : List ℕ). talk.framer ++ x) (read.none t failed).0 ∙ append-nil talk.framer)))
+          (hears_same (open_of a.1) (open_of b.1) h.events [] talk.framer (h.hears t) (read.input t ∙ (ap (λ (x : List ℕ). (open_of a.1).input ++ x) (read.none t failed).0 ∙ append-nil (open_of a.1).input)) (read.none t failed).1.looks (no_more (open_of a.1).output (open_of b.1).output (read.output t)))
+    ];
+    rounds = rounds;
+    late_last = h.late_last;
+    stays = λ t. stays_then begun.1 a.1 b.1 (h.stays t) (read.stays t);
+    made = λ t. (read.stays t).connected ∙ h.made t;
+    room = room;
+    continues = continues_then begun.0 a.0 b.0 h.continues continues;
+  }
 
-  -- the message is one that the speaker takes, in time
-  pub taken_in_time : (got : Option ServerMessage) (least : ℕ) (talk : Talk) (s : S) (w : W) (now : View) → (st : Stands T J Q O tells begun (as_list got) least talk s w now) → IfSome got (λ m. floor talk.spoken ≤ least) → IsGoing talk.spoken → O s ≡ false → IfSome got (λ m. J s m ≡ judged.Takes)
-      → IfSome got (λ m. Takes T J O (λ x. HasPaused (Q x) st.events) st.events m)
-  taken_in_time None least talk s w now st low going wants takes = tt
-  taken_in_time (Some m) least talk s w now st low going wants takes = record { speaker = s; world = w; talks = st.talks; wants = wants; takes = takes; ready = paused (m ∷ []) least talk s w now st low going }
+  -- ---- While writing hasn't stopped
 
-  pub put_in_time : (got : Option ServerMessage) (pending : List ServerMessage) (least : ℕ) (talk : Talk) (s : S) (w : W) (now : View) (output : List ℕ) → (st : Stands T J Q O tells begun pending least talk s w now) → IsGoing talk.spoken → (tells → IsPrefix (open_of now.1).output output)
-      → IfSome got (λ m. PutsFirst tells output (said st.events))
-  put_in_time None pending least talk s w now output st going more = tt
-  put_in_time (Some m) pending least talk s w now output st going more = first_later tells (open_of now.1).output output (said st.events) more (first_whole tells (open_of now.1).output (said st.events) (going_whole talk.spoken tells (open_of now.1).output (said st.events) going st.puts))
-
-  -- more was written
-  pub firsts_later : (output output' : List ℕ) (events : List Event) → (tells → IsPrefix output output') → ArePutFirst tells output events → ArePutFirst tells output' events
-  firsts_later output output' events more a = at_each_map _ _ _ _ (λ before m p. first_later tells output output' (said before) more p) (λ before m p. tt) [] events a
-
-  -- a step was done, and what it said was put as far as the link took it
-  pub after_step : (got : Option ServerMessage) (ms : List ClientMessage) (least n : ℕ) (talk talk' : Talk) (s s' : S) (w w' : W) (a b : View)
-      → (st : Stands T J Q O tells begun (as_list got) least talk s w a) → IfSome got (λ m. floor talk.spoken ≤ least) → IsGoing talk.spoken → O s ≡ false → IfSome got (λ m. J s m ≡ judged.Takes) → IfSome got (λ m. text_of m ≡ None)
-      → T s' w' (st.events ++ (as_heard got ++ all_said ms)) → PutsMore (halt_of talk'.spoken) tells ms a.1 b.1 → n ≡ length ms → talk'.heard ≡ talk.heard + length (as_list got) → talk'.framer ≡ talk.framer → length talk'.buffer.items ≡ BUFFER
-      → (talk'.spoken ≡ spoken.Quiet → Q s') → (talk'.spoken ≢ spoken.Quiet → O s' ≡ false) → ((halt : Halt) → talk'.spoken ≡ spoken.Halted halt → ms ≢ []) → ((halt : Halt) → talk'.spoken ≡ spoken.Halted halt → IsHaltedBy a.0 b.0 halt)
-      → HasPut (halt_of talk'.spoken ≢ Some halts.NotYet) a.0 b.0
-      → Stands T J Q O tells begun [] (since got least + n) talk' s' w' b
-  after_step got ms least n talk talk' s s' w w' a b st low going wants takes good talks puts count heard' framer room quiet wants' some halted counts =
-      let e = said_step st.events got ms in
-      let h = heard_step st.events got ms in
-      let written : tells → IsPrefix (open_of a.1).output (open_of b.1).output = λ t. (puts.bytes, (puts.wrote t).output) in
+  -- nothing was said or heard
+  unfoldable pub begins : (talk : Talk) (s : S) (w : W) → manner.talks s w [] → (tells → IsFresh begun.1) → IsNew talk → Stands manner tells begun [] 0 talk s w begun
+  unfolding rounds_begin
+  begins talk s w talks fresh new =
+      let rounds = rounds_begin manner tells (open_of begun.1) (λ t. ap (λ (o : Option Connection). (unwrap_or o (unused [] false)).looks) (fresh t).is_open) (λ t. ap (λ (o : Option Connection). (unwrap_or o (unused [] false)).renewed) (fresh t).is_open) in
+      let unread : (tells → (open_of begun.1).input ≡ []) = λ t. ap (λ (o : Option Connection). (unwrap_or o (unused [] false)).input) (fresh t).is_open in
       record {
-        events = st.events ++ (as_heard got ++ all_said ms);
-        talks = talks;
-        taken = at_each_step _ _ st.events got ms st.taken (taken_in_time got least talk s w a st low going wants takes);
-        first = at_each_step _ _ st.events got ms (firsts_later (open_of a.1).output (open_of b.1).output st.events written st.first) (put_in_time got (as_list got) least talk s w a (open_of b.1).output st going written);
-        timely = timely_any (halt_of talk'.spoken) (st.events ++ (as_heard got ++ all_said ms)) (in_time_step st.events got ms (subst (λ x. IsTimelyBy x st.events) going st.timely));
-        good = subst AreGood (sym h) (all_append (λ m. text_of m ≡ None) (heard st.events) (as_list got) st.good (good_got got good));
-        count = let k = ap (λ (x : List ServerMessage). length x) h in let c = st.count in omega (arith, k, c, heard', length-append (heard st.events) (as_list got));
-        few = subst (λ (x : List ServerMessage). length x ≤ MOST_HEARD) (sym (append-nil (heard (st.events ++ (as_heard got ++ all_said ms))) ∙ h)) st.few;
-        many = let k = since_step st.events got ms least st.many in omega (arith, k, count);
-        some = λ halt is. subst (λ (x : List ClientMessage). x ≢ []) (sym e) (some_more (said st.events) ms (some halt is));
-        wants = wants';
-        puts = subst (λ (x : List ClientMessage). PutsBy (halt_of talk'.spoken) tells (open_of b.1).output x) (sym e)
-            (joined (halt_of talk'.spoken) tells (open_of a.1).output puts.bytes (open_of b.1).output (said st.events) ms (going_whole talk.spoken tells (open_of a.1).output (said st.events) going st.puts) (λ t. (puts.wrote t).output) puts.puts);
-        less = λ halt is. subst (λ (x : List ClientMessage). IsUnput tells (open_of b.1).output x) (sym e)
-            (joined_less tells (open_of a.1).output puts.bytes (open_of b.1).output (said st.events) ms (going_whole talk.spoken tells (open_of a.1).output (said st.events) going st.puts) (λ t. (puts.wrote t).output) (puts.less halt (ap halt_of is)));
-        quiet = quiet;
-        halted = λ halt is. halted_later begun.0 a.0 b.0 halt st.continues (halted halt is);
-        full = λ other. counts.full (halt_is_not talk'.spoken halts.NotYet other) ∙ st.full (going_is_not talk.spoken halts.NotYet going);
-        waits = counts.waits ∙ st.waits;
-        hears = λ t. subst (λ (x : List ServerMessage). HasHeard (open_of b.1).input x talk'.framer) (sym (append-nil (heard (st.events ++ (as_heard got ++ all_said ms))) ∙ h))
-            (subst (λ (r : List ℕ). HasHeard (open_of b.1).input (heard st.events ++ as_list got) r) (sym framer) (subst (λ (i : List ℕ). HasHeard i (heard st.events ++ as_list got) talk.framer) (sym (puts.wrote t).input) (st.hears t)));
-        stays = λ t. stays_then begun.1 a.1 b.1 (st.stays t) (puts.wrote t).stays;
-        made = λ t. (puts.wrote t).stays.connected ∙ st.made t;
-        room = room;
-        continues = continues_then begun.0 a.0 b.0 st.continues counts.continues;
+        holds = record {
+          events = [];
+          talks = talks;
+          taken = tt;
+          first = tt;
+          good = tt;
+          count = new.heard;
+          few = omega arith;
+          hears = λ t. record {
+            sum = let looks = ap (λ (o : Option Connection). came_in_all (unwrap_or o (unused [] false)).looks) (fresh t).is_open in let none = ap length (unread t) in omega (arith, looks, none);
+            order = subst (λ (x : List Look). AreInOrder 0 (length (open_of begun.1).output) x) (sym (ap (λ (o : Option Connection). (unwrap_or o (unused [] false)).looks) (fresh t).is_open)) (omega arith);
+            has = record { frames = []; whole = unread t ∙ sym new.framer; each = tt; are = refl };
+            after = tt;
+          };
+          rounds = rounds;
+          late_last = tt;
+          stays = λ t. let f = fresh t in stays_same begun.1 (record { conn = unused f.host true; is_open = f.is_open });
+          made = λ t. ap (λ (o : Option Connection). (unwrap_or o (unused [] false)).connected) (fresh t).is_open;
+          room = new.room;
+          continues = continues_same begun.0;
+        };
+        timely = tt;
+        puts = record { sendable = tt; bytes = λ t. ap (λ (o : Option Connection). (unwrap_or o (unused [] false)).output) (fresh t).is_open };
+        faults = refl;
+        full = refl;
+        waits = refl;
+        unheard = λ t. unheard_partial (open_of begun.1) talk.framer (inl (let e = ap length new.framer in omega (arith, e)));
+        since = omega arith;
+        round = record { put_is = refl; known = new.known; top = new.top; on_time = refl; spare = λ t. record { few = let came = ap one_if new.came in let renewed = ap (λ (o : Option Connection). (unwrap_or o (unused [] false)).renewed) (fresh t).is_open in omega (arith, came, renewed); some = λ one. absurd (omega (arith, one)) } };
+      }
+
+  -- messages were said, and all of them put
+  pub after_said : (ms : List ClientMessage) (put n : ℕ) (talk : Talk) (s s' : S) (w w' : W) (a b : View) → (st : Stands manner tells begun [] put talk s w a) → manner.talks s' w' (st.holds.events ++ all_said ms) → put + length ms ≤ MOST_PUT
+      → Sends put (spoken.Said n) tells ms a b → IsPartial talk.framer → Stands manner tells begun [] n talk s' w' b
+  unfolding holds_said
+  after_said ms put n talk s s' w w' a b st talks few sends partial =
+      let h = st.holds in
+      let both = rounds_said manner tells (open_of a.1) (open_of b.1) h.events ms put talk h.rounds st.round few sends.looks sends.renewed in
+      subst (λ (k : ℕ). Stands manner tells begun [] k talk s' w' b) (sym (sends.count n refl)) (record {
+        holds = holds_said ms talk s s' w w' a b h talks (λ t. (sends.bytes, sends.output t)) sends.stays sends.input sends.looks sends.counts.continues both.0 st.timely;
+        timely = in_time_said h.events ms st.timely;
+        puts = subst (λ (x : List ClientMessage). PutsWhole tells (open_of b.1).output x) (sym (said_said h.events ms)) (joined None tells (open_of a.1).output sends.bytes (open_of b.1).output (said h.events) ms st.puts sends.output sends.puts);
+        faults = sends.counts.faults (λ e. cc) ∙ st.faults;
+        full = sends.counts.full (λ e. cc) ∙ st.full;
+        waits = sends.counts.waits ∙ st.waits;
+        unheard = λ t. unheard_partial (open_of b.1) talk.framer partial;
+        since = since_said h.events ms put st.since;
+        round = both.1 (sends.some n refl) (sends.older n refl);
+      })
+
+  -- messages were said, and not all of them put
+  pub after_halt : (ms : List ClientMessage) (put : ℕ) (halt : Halt) (talk : Talk) (s s' : S) (w w' : W) (a b : View) → (st : Stands manner tells begun [] put talk s w a) → manner.talks s' w' (st.holds.events ++ all_said ms) → put + length ms ≤ MOST_PUT
+      → Sends put (spoken.Halted halt) tells ms a b → manner.wants s' ≡ wants.More → manner.opened s' → Stopped manner tells begun [] halt talk s' w' b
+  unfolding holds_said
+  after_halt ms put halt talk s s' w w' a b st talks few sends wanting opened =
+      let h = st.holds in
+      let both = rounds_said manner tells (open_of a.1) (open_of b.1) h.events ms put talk h.rounds st.round few sends.looks sends.renewed in record {
+        holds = holds_said ms talk s s' w w' a b h talks (λ t. (sends.bytes, sends.output t)) sends.stays sends.input sends.looks sends.counts.continues both.0 st.timely;
+        puts = subst (λ (x : List ClientMessage). PutsBy (Some halt) tells (open_of b.1).output x) (sym (said_said h.events ms)) (joined (Some halt) tells (open_of a.1).output sends.bytes (open_of b.1).output (said h.events) ms st.puts sends.output sends.puts);
+        less = subst (λ (x : List ClientMessage). IsUnput tells (open_of b.1).output x) (sym (said_said h.events ms)) (joined_less tells (open_of a.1).output sends.bytes (open_of b.1).output (said h.events) ms st.puts sends.output (sends.less halt refl));
+        why = halted_later begun.0 a.0 b.0 halt h.continues (sends.why halt refl);
+        full = λ other. sends.counts.full (λ e. other (let k : halt ≡ halts.NotYet = cc in k)) ∙ st.full;
+        waits = sends.counts.waits ∙ st.waits;
+        wanting = wanting;
+        opened = opened;
       }
 
   -- the next message is pending
-  pub after_next : (least : ℕ) (m : ServerMessage) (talk talk' : Talk) (s : S) (w : W) (a : View)
-      → Stands T J Q O tells begun [] least talk s w a → IsNext (nexts.Message m) talk.framer talk'.framer → talk' ≡ record talk { framer = talk'.framer } → talk.heard < MOST_HEARD
-      → Stands T J Q O tells begun (m ∷ []) least talk' s w a
-  after_next least m talk talk' s w a st next is more =
-      let same : talk'.spoken ≡ talk.spoken = ap (λ (x : Talk). x.spoken) is in
-      record {
-        events = st.events;
-        talks = st.talks;
-        taken = st.taken;
-        first = st.first;
-        timely = subst (λ x. IsTimelyBy (halt_of x) st.events) (sym same) st.timely;
-        good = st.good;
-        count = ap (λ (x : Talk). x.heard) is ∙ st.count;
-        few = let c = st.count in omega (arith, c, more, length-append (heard st.events) (m ∷ []));
-        many = st.many;
-        some = λ halt e. st.some halt (sym same ∙ e);
-        wants = λ other. st.wants (λ e. other (same ∙ e));
-        puts = subst (λ x. PutsBy (halt_of x) tells (open_of a.1).output (said st.events)) (sym same) st.puts;
-        less = λ halt e. st.less halt (sym same ∙ e);
-        quiet = λ e. st.quiet (sym same ∙ e);
-        halted = λ halt e. st.halted halt (sym same ∙ e);
-        full = λ other. st.full (λ e. other (same ∙ e));
-        waits = st.waits;
-        hears = λ t. next (open_of a.1).input (heard st.events) (subst (λ (x : List ServerMessage). HasHeard (open_of a.1).input x talk.framer) (append-nil (heard st.events)) (st.hears t));
-        stays = st.stays;
-        made = st.made;
-        room = ap (λ (x : Talk). length x.buffer.items) is ∙ st.room;
-        continues = st.continues;
-      }
+  pub after_next : (put : ℕ) (m : ServerMessage) (talk talk' : Talk) (s : S) (w : W) (a : View) → Stands manner tells begun [] put talk s w a → BeginsWith m talk.framer talk'.framer → talk' ≡ record talk { framer = talk'.framer } → talk.heard < MOST_HEARD → Stands manner tells begun (m ∷ []) put talk' s w a
+  unfolding holds_next
+  after_next put m talk talk' s w a st next is more = record {
+    holds = holds_next m talk talk' s w a st.holds next is more;
+    timely = st.timely;
+    puts = st.puts;
+    faults = st.faults;
+    full = st.full;
+    waits = st.waits;
+    unheard = λ t. unheard_next (open_of a.1) m talk.framer talk'.framer (st.unheard t) next;
+    since = st.since;
+    round = record {
+      put_is = st.round.put_is;
+      known = ap (λ (x : Talk). x.known) is ∙ st.round.known;
+      top = ap (λ (x : Talk). x.top) is ∙ st.round.top;
+      on_time = st.round.on_time;
+      spare = λ t. let same = ap (λ (x : Talk). one_if x.came) is in record { few = let old = (st.round.spare t).few in omega (arith, old, same); some = λ one. let old = (st.round.spare t).some one in omega (arith, old, same) };
+    };
+  }
 
-  pub after_next_floor : (m : ServerMessage) (talk talk' : Talk) (s : S) (w : W) (a : View)
-      → Stands T J Q O tells begun [] (floor talk.spoken) talk s w a → IsNext (nexts.Message m) talk.framer talk'.framer → talk' ≡ record talk { framer = talk'.framer } → talk.heard < MOST_HEARD
-      → Stands T J Q O tells begun (m ∷ []) (floor talk'.spoken) talk' s w a
-  after_next_floor m talk talk' s w a st next is more =
-      lowered (m ∷ []) (floor talk.spoken) (floor talk'.spoken) talk' s w a (after_next (floor talk.spoken) m talk talk' s w a st next is more) (let e = ap (λ (x : Talk). floor x.spoken) is in omega (arith, e))
-
-  -- more was read, and it didn't wait in vain
-  pub after_read : (kept came : Type 0) (least : ℕ) (talk talk' : Talk) (s : S) (w : W) (a b : View)
-      → Stands T J Q O tells begun [] least talk s w a → kept → HasRead tells kept talk.framer talk'.framer a.1 b.1 → talk' ≡ record talk { framer = talk'.framer; buffer = talk'.buffer } → length talk'.buffer.items ≡ BUFFER → HasLooked came a.0 b.0 → came
-      → Stands T J Q O tells begun [] least talk' s w b
-  after_read kept came least talk talk' s w a b st k read is room counts here =
-      let same : talk'.spoken ≡ talk.spoken = ap (λ (x : Talk). x.spoken) is in
-      record {
-        events = st.events;
-        talks = st.talks;
-        taken = st.taken;
-        first = firsts_later (open_of a.1).output (open_of b.1).output st.events (λ t. ([], read.output t ∙ sym (append-nil (open_of a.1).output))) st.first;
-        timely = subst (λ x. IsTimelyBy (halt_of x) st.events) (sym same) st.timely;
-        good = st.good;
-        count = ap (λ (x : Talk). x.heard) is ∙ st.count;
-        few = st.few;
-        many = st.many;
-        some = λ halt e. st.some halt (sym same ∙ e);
-        wants = λ other. st.wants (λ e. other (same ∙ e));
-        puts = subst (λ x. PutsBy (halt_of x) tells (open_of b.1).output (said st.events)) (sym same) (puts_same (halt_of talk.spoken) tells (open_of a.1).output (open_of b.1).output (said st.events) read.output st.puts);
-        less = λ halt e. less_same tells (open_of a.1).output (open_of b.1).output (said st.events) read.output (st.less halt (sym same ∙ e));
-        quiet = λ e. st.quiet (sym same ∙ e);
-        halted = λ halt e. halted_before begun.0 a.0 b.0 halt (st.halted halt (sym same ∙ e)) counts.continues;
-        full = λ other. counts.full ∙ st.full (λ e. other (same ∙ e));
-        waits = counts.waits here ∙ st.waits;
-        hears = λ t. hear_more (open_of a.1).input (open_of b.1).input talk.framer talk'.framer read.more (heard st.events ++ []) (st.hears t) (read.input t) (read.framer k);
-        stays = λ t. stays_then begun.1 a.1 b.1 (st.stays t) (read.stays t);
-        made = λ t. (read.stays t).connected ∙ st.made t;
-        room = room;
-        continues = continues_then begun.0 a.0 b.0 st.continues counts.continues;
-      }
-
-  -- more was read, after as many were said as the floor asks for
-  pub after_read_floor : (kept came : Type 0) (talk talk' : Talk) (s : S) (w : W) (a b : View)
-      → Stands T J Q O tells begun [] (floor talk.spoken) talk s w a → kept → HasRead tells kept talk.framer talk'.framer a.1 b.1 → talk' ≡ record talk { framer = talk'.framer; buffer = talk'.buffer } → length talk'.buffer.items ≡ BUFFER → HasLooked came a.0 b.0 → came
-      → Stands T J Q O tells begun [] (floor talk'.spoken) talk' s w b
-  after_read_floor kept came talk talk' s w a b st k read is room counts here =
-      let same : talk'.spoken ≡ talk.spoken = ap (λ (x : Talk). x.spoken) is in
-      lowered [] (floor talk.spoken) (floor talk'.spoken) talk' s w b (after_read kept came (floor talk.spoken) talk talk' s w a b st k read is room counts here) (let e = ap floor same in omega (arith, e))
-
-  pub taken_late : (least : ℕ) (m : ServerMessage) (talk : Talk) (s : S) (w : W) (now : View) → (st : Stands T J Q O tells begun (m ∷ []) least talk s w now) → O s ≡ false → J s m ≡ judged.Takes → AreTaken T J Q O (st.events ++ as_late m)
-  taken_late least m talk s w now st wants takes = at_each_late _ _ st.events m st.taken (record { speaker = s; world = w; talks = st.talks; wants = wants; takes = takes; ready = tt })
-
-  -- it is late since a write failed
-  pub late_unput : (least : ℕ) (m : ServerMessage) (talk : Talk) (s : S) (w : W) (now : View) → (st : Stands T J Q O tells begun (m ∷ []) least talk s w now) → halt_of talk.spoken ≡ Some halts.Failed → AreTimely tells (open_of now.1).output begun.0 now.0 (st.events ++ as_late m)
-  late_unput least m talk s w now st failed =
-      let is = halted_as talk.spoken halts.Failed failed in
-      inr (st.halted halts.Failed is, subst (λ (x : List ClientMessage). IsUnput tells (open_of now.1).output x) (sym (said_late st.events m)) (st.less halts.Failed is))
-
-  -- a message was taken after writing failed
-  pub after_late : (m : ServerMessage) (talk : Talk) (s s' : S) (w w' : W) (a : View)
-      → (st : Stands T J Q O tells begun (m ∷ []) 0 talk s w a) → halt_of talk.spoken ≡ Some halts.Failed → O s ≡ false → J s m ≡ judged.Takes → O s' ≡ false → text_of m ≡ None → T s' w' (st.events ++ as_late m)
-      → Stands T J Q O tells begun [] 0 (record talk { heard = talk.heard + 1 }) s' w' a
-  after_late m talk s s' w w' a st failed wants takes wants' good talks =
-      let e = said_late st.events m in
-      let h = heard_late st.events m in
-      record {
-        events = st.events ++ as_late m;
-        talks = talks;
-        taken = taken_late 0 m talk s w a st wants takes;
-        first = at_each_late _ _ st.events m st.first tt;
-        timely = subst (λ x. IsTimelyBy x (st.events ++ as_late m)) (sym failed) tt;
-        good = subst AreGood (sym h) (all_append (λ x. text_of x ≡ None) (heard st.events) (m ∷ []) st.good (good, tt));
-        count = let k = ap (λ (x : List ServerMessage). length x) h in let c = st.count in omega (arith, k, c, length-append (heard st.events) (m ∷ []));
-        few = subst (λ (x : List ServerMessage). length x ≤ MOST_HEARD) (sym (append-nil (heard (st.events ++ as_late m)) ∙ h)) st.few;
-        many = omega arith;
-        some = λ halt is. subst (λ (x : List ClientMessage). x ≢ []) (sym e) (st.some halt is);
-        wants = λ other. wants';
-        puts = subst (λ (x : List ClientMessage). PutsBy (halt_of talk.spoken) tells (open_of a.1).output x) (sym e) st.puts;
-        less = λ halt is. subst (λ (x : List ClientMessage). IsUnput tells (open_of a.1).output x) (sym e) (st.less halt is);
-        quiet = λ is. absurd (let x : halt_of spoken.Quiet ≡ Some halts.Failed = ap halt_of (sym is) ∙ failed in cc);
-        halted = st.halted;
+  -- it was heard
+  pub after_heard : (m : ServerMessage) (talk talk' : Talk) (s s' : S) (w w' : W) (now : View) → (st : Stands manner tells begun (m ∷ []) 0 talk s w now) → manner.wants s ≢ wants.Nothing → manner.judges s m ≡ judged.Takes → manner.talks s' w' (st.holds.events ++ as_heard m) → text_of m ≡ None → talk' ≡ noted m talk
+      → Stands manner tells begun [] 0 talk' s' w' now
+  after_heard m talk talk' s s' w w' now st wanting takes talks good is =
+      subst (λ (x : Talk). Stands manner tells begun [] 0 x s' w' now) (sym is) (
+      let h = st.holds in
+      let e = heard_heard h.events m in
+      let both = rounds_heard manner tells (open_of now.1) h.events m 0 talk h.rounds st.round in record {
+        holds = record {
+          events = h.events ++ as_heard m;
+          talks = talks;
+          taken = at_each_heard _ _ h.events m h.taken (takes_one m s w h.events h.talks wanting takes);
+          first = at_each_heard _ _ h.events m h.first (first_whole tells (open_of now.1).output (said h.events) st.puts);
+          good = subst AreGood (sym e) (all_append (λ x. text_of x ≡ None) (heard h.events) (m ∷ []) h.good (good, tt));
+          count = let c = h.count in let k = ap length e in omega (arith, c, k, length-append (heard h.events) (m ∷ []));
+          few = subst (λ (x : List ServerMessage). length x ≤ MOST_HEARD) (sym (append-nil (heard (h.events ++ as_heard m)) ∙ e)) h.few;
+          hears = λ t. hears_heard (open_of now.1) h.events m talk.framer (h.hears t) (sym (ap length (st.puts.bytes t))) (st.unheard t);
+          rounds = both.0;
+          late_last = late_none (h.events ++ as_heard m) (in_time_heard h.events m st.timely);
+          stays = h.stays;
+          made = h.made;
+          room = h.room;
+          continues = h.continues;
+        };
+        timely = in_time_heard h.events m st.timely;
+        puts = subst (λ (x : List ClientMessage). PutsWhole tells (open_of now.1).output x) (sym (said_heard h.events m)) st.puts;
+        faults = st.faults;
         full = st.full;
         waits = st.waits;
-        hears = λ t. subst (λ (x : List ServerMessage). HasHeard (open_of a.1).input x talk.framer) (sym (append-nil (heard (st.events ++ as_late m)) ∙ h)) (st.hears t);
-        stays = st.stays;
-        made = st.made;
-        room = st.room;
-        continues = st.continues;
+        unheard = λ t. unheard_heard (open_of now.1) m talk.framer (st.unheard t);
+        since = omega arith;
+        round = both.1;
+      })
+
+  -- it was looked what came: a round ends
+  pub after_look : (kept failed here : Type 0) (put : ℕ) (quiet : Bool) (talk talk' : Talk) (s : S) (w : W) (a b : View) → (st : Stands manner tells begun [] put talk s w a) → Paused manner quiet put s → IsPartial talk.framer → talk.came ≡ false → kept → (read : HasRead tells kept failed quiet talk.framer talk'.framer a.1 b.1)
+      → (failed → ⊥) → talk' ≡ record talk { framer = talk'.framer; buffer = talk'.buffer } → length talk'.buffer.items ≡ BUFFER → HasLooked failed here a.0 b.0 → here → Stands manner tells begun [] 0 talk' s w b
+  unfolding holds_read
+  after_look kept failed here put quiet talk talk' s w a b st paused partial came k read not is room counts so =
+      let h = st.holds in
+      let same = same_kept talk talk' is in
+      let both = rounds_looked manner tells (open_of a.1) (open_of b.1) h.events (length read.more) put quiet talk talk' s w h.rounds st.round h.talks paused st.puts (λ t. read.looked t not) came same.1 same.2 (same.3 ∙ came) in record {
+        holds = holds_read kept failed quiet talk talk' s w a b h k read (inl not) is room counts.continues both.0;
+        timely = st.timely;
+        puts = puts_same None tells (open_of a.1).output (open_of b.1).output (said h.events) read.output st.puts;
+        faults = counts.faults not ∙ st.faults;
+        full = counts.full ∙ st.full;
+        waits = counts.waits so ∙ st.waits;
+        unheard = λ t. unheard_looked (open_of a.1) (open_of b.1) talk.framer talk'.framer read.more quiet partial (h.hears t).sum (read.looked t not) (read.input t) (read.output t) (read.framer k);
+        since = omega arith;
+        round = both.1;
       }
 
-  -- ---- Ends
-
-  pub at_most : (pending : List ServerMessage) (least : ℕ) (talk : Talk) (s : S) (w : W) (now : View) → (st : Stands T J Q O tells begun pending least talk s w now) → length (heard st.events) ≤ MOST_HEARD
-  at_most pending least talk s w now st = let f = st.few in omega (arith, f, length-append (heard st.events) pending)
-
-  pub risen_or : (pending : List ServerMessage) (least : ℕ) (talk : Talk) (s : S) (w : W) (now : View) → (st : Stands T J Q O tells begun pending least talk s w now) → AreTimely tells (open_of now.1).output begun.0 now.0 st.events
-  risen_or pending least talk s w now st = timely_or tells (open_of now.1).output (halt_of talk.spoken) begun.0 now.0 st.events (λ halt e. st.halted halt (halted_as talk.spoken halt e)) (λ halt e. st.less halt (halted_as talk.spoken halt e)) st.timely
-
-  -- what was heard and said so far is what was read and written
-  pub matches_so : (pending : List ServerMessage) (least : ℕ) (talk : Talk) (s : S) (w : W) (now : View) → (st : Stands T J Q O tells begun pending least talk s w now)
-      → Matches tells (record { events = st.events; refused = pending; rest = talk.framer; conn = open_of now.1; before = begun.0; after = now.0 })
-  matches_so pending least talk s w now st = record {
-    hears = st.hears;
-    puts = by_part (halt_of talk.spoken) tells (open_of now.1).output (said st.events) st.puts;
-    first = st.first;
-    late = risen_or pending least talk s w now st;
-    made = λ t. inl (st.made t);
-    few = at_most pending least talk s w now st;
-    continues = st.continues;
-  }
-
-  -- and after a read
-  pub matches_read : (kept came : Type 0) (least : ℕ) (talk talk' : Talk) (rest : List ℕ) (s : S) (w : W) (a b : View) → (st : Stands T J Q O tells begun [] least talk s w a) → (read : HasRead tells kept talk.framer talk'.framer a.1 b.1) → HasLooked came a.0 b.0 → rest ≡ talk.framer ++ read.more
-      → Matches tells (record { events = st.events; refused = []; rest = rest; conn = open_of b.1; before = begun.0; after = b.0 })
-  matches_read kept came least talk talk' rest s w a b st read counts is = record {
-    hears = λ t. hear_more (open_of a.1).input (open_of b.1).input talk.framer rest read.more (heard st.events ++ []) (st.hears t) (read.input t) is;
-    puts = by_part (halt_of talk.spoken) tells (open_of b.1).output (said st.events) (puts_same (halt_of talk.spoken) tells (open_of a.1).output (open_of b.1).output (said st.events) read.output st.puts);
-    first = firsts_later (open_of a.1).output (open_of b.1).output st.events (λ t. ([], read.output t ∙ sym (append-nil (open_of a.1).output))) st.first;
-    late = timely_or tells (open_of b.1).output (halt_of talk.spoken) begun.0 b.0 st.events (λ halt e. halted_before begun.0 a.0 b.0 halt (st.halted halt (halted_as talk.spoken halt e)) counts.continues)
-        (λ halt e. less_same tells (open_of a.1).output (open_of b.1).output (said st.events) read.output (st.less halt (halted_as talk.spoken halt e))) st.timely;
-    made = λ t. inl ((read.stays t).connected ∙ st.made t);
-    few = at_most [] least talk s w a st;
-    continues = continues_then begun.0 a.0 b.0 st.continues counts.continues;
-  }
-
-  -- it ended: a message that is pending was not taken
-  pub finished : (pending : List ServerMessage) (least : ℕ) (talk : Talk) (s : S) (w : W) (now : View) (end : End) → (st : Stands T J Q O tells begun pending least talk s w now)
-      → EndsBy (J s) (O s) (Q s) tells end (record { events = st.events; refused = pending; rest = talk.framer; conn = open_of now.1; before = begun.0; after = now.0 }) → IsUnfinished (Wants T O Q) tells end (open_of now.1).output st.events
-      → Finishes T J Q O tells begun s w now end
-  finished pending least talk s w now end st cause open_left = record {
-    stays = st.stays;
-    ended = record {
-      events = st.events;
-      talks = (st.talks, st.taken);
-      refused = pending;
-      rest = talk.framer;
-      matches = matches_so pending least talk s w now st;
-      cause = cause;
-    };
-    unfinished = open_left;
-  }
-
-  -- not all that was said was written, or the speaker wants more
-  pub left_open : (pending : List ServerMessage) (least : ℕ) (talk : Talk) (s : S) (w : W) (now : View) → (st : Stands T J Q O tells begun pending least talk s w now) → floor talk.spoken ≤ least → O s ≡ false → IsUnput tells (open_of now.1).output (said st.events) ⊎ Wants T O Q st.events
-  left_open pending least talk s w now st low wants = go (halt_of talk.spoken) refl
-    where
-      go : (h : Option Halt) → halt_of talk.spoken ≡ h → IsUnput tells (open_of now.1).output (said st.events) ⊎ Wants T O Q st.events
-      go None e = inr (record { speaker = s; world = w; made = st.talks; not_over = wants; spoke = paused pending least talk s w now st low e })
-      go (Some halt) e = inl (st.less halt (halted_as talk.spoken halt e))
-
-  -- so it was at the end
-  pub left_at_end : (pending : List ServerMessage) (least : ℕ) (talk : Talk) (s : S) (w : W) (now : View) → (st : Stands T J Q O tells begun pending least talk s w now) → floor talk.spoken ≤ least → O s ≡ false
-      → (st.events ≡ []) ⊎ IsUnput tells (open_of now.1).output (said st.events) ⊎ WentOn (Wants T O Q) st.events
-  left_at_end pending least talk s w now st low wants = elim (left_open pending least talk s w now st low wants) [
-    | inl less ↦ inr (inl less)
-    | inr more ↦ inr (inr (record { front = st.events; last = None; are = sym (append-nil st.events); error = tt; wanted = more }))
-  ]
-
-  -- nothing was said or heard
-  pub begins : (talk : Talk) (s : S) (w : W) → T s w [] → O s ≡ false → (tells → IsFresh begun.1) → talk.framer ≡ [] → talk.heard ≡ 0 → talk.spoken ≡ spoken.Owing → length talk.buffer.items ≡ BUFFER → Stands T J Q O tells begun [] 0 talk s w begun
-  begins talk s w talks wants fresh framer heard owing room = record {
-    events = [];
-    talks = talks;
-    taken = tt;
-    first = tt;
-    timely = timely_any (halt_of talk.spoken) [] tt;
-    good = tt;
-    count = heard;
-    few = omega arith;
-    many = omega arith;
-    some = λ halt e. absurd (let x : spoken.Owing ≡ spoken.Halted halt = sym owing ∙ e in cc);
-    wants = λ other. wants;
-    puts = subst (λ x. PutsBy (halt_of x) tells (open_of begun.1).output []) (sym owing) (record { sendable = tt; bytes = λ t. ap (λ (o : Option Connection). (unwrap_or o (unused [] false)).output) (fresh t).is_open });
-    less = λ halt e. absurd (let x : spoken.Owing ≡ spoken.Halted halt = sym owing ∙ e in cc);
-    quiet = λ e. absurd (let x : spoken.Owing ≡ spoken.Quiet = sym owing ∙ e in cc);
-    halted = λ halt e. absurd (let x : spoken.Owing ≡ spoken.Halted halt = sym owing ∙ e in cc);
-    full = λ other. refl;
-    waits = refl;
-    hears = λ t. record { frames = []; whole = ap (λ (o : Option Connection). (unwrap_or o (unused [] false)).input) (fresh t).is_open ∙ sym framer; each = tt; are = refl };
-    stays = λ t. let f = fresh t in stays_same begun.1 (record { conn = unused f.host true; is_open = f.is_open });
-    made = λ t. ap (λ (o : Option Connection). (unwrap_or o (unused [] false)).connected) (fresh t).is_open;
-    room = room;
-    continues = continues_same begun.0;
-  }
-
--- ---- Faults
-
-module _ {S W F : Type 0} (T : S → W → List Event → Type 0) (Fails : S → W → List Event → F → Type 0) (J : S → ServerMessage → Judged) (Q : S → Type 0) (O : S → Bool) (tells : Type 0) (begun : View) where
-  -- memory ran out
-  pub broken : (least : ℕ) (talk : Talk) (s : S) (w : W) (now : View) → Stands T J Q O tells begun [] least talk s w now → Breaks T Fails J Q O tells begun s w now faults.NoMem
-  broken least talk s w now st = record {
-    stays = st.stays;
-    broke = record {
-      events = st.events;
-      fails = (st.talks, st.taken);
-      rest = talk.framer;
-      matches = matches_so T J Q O tells begun [] least talk s w now st;
-      waited = st.waits;
-    };
-  }
-
-  -- a step failed
-  pub step_failed : (got : Option ServerMessage) (least : ℕ) (talk : Talk) (s s' : S) (w w' : W) (now : View) (fault : F) → (st : Stands T J Q O tells begun (as_list got) least talk s w now)
-      → IfSome got (λ m. floor talk.spoken ≤ least) → IsGoing talk.spoken → O s ≡ false → IfSome got (λ m. J s m ≡ judged.Takes) → Fails s' w' (st.events ++ as_heard got) fault → Breaks T Fails J Q O tells begun s' w' now (faults.Speaker fault)
-  step_failed got least talk s s' w w' now fault st low going wants takes fails =
-      let e = said_failed st.events got in
-      let h = heard_failed st.events got in
-      record {
-        stays = st.stays;
-        broke = record {
-          events = st.events ++ as_heard got;
-          fails = (fails, at_each_failed _ _ st.events got st.taken (taken_in_time T J Q O tells begun got least talk s w now st low going wants takes));
-          rest = talk.framer;
-          matches = record {
-            hears = λ t. subst (λ (x : List ServerMessage). HasHeard (open_of now.1).input x talk.framer) (sym (append-nil (heard (st.events ++ as_heard got)) ∙ h)) (st.hears t);
-            puts = subst (λ (x : List ClientMessage). PutsPart tells (open_of now.1).output x) (sym e) (by_part (halt_of talk.spoken) tells (open_of now.1).output (said st.events) st.puts);
-            first = at_each_failed _ _ st.events got st.first (put_in_time T J Q O tells begun got (as_list got) least talk s w now (open_of now.1).output st going (λ t. ([], sym (append-nil (open_of now.1).output))));
-            late = inl (in_time_failed st.events got (subst (λ x. IsTimelyBy x st.events) going st.timely));
-            made = λ t. inl (st.made t);
-            few = subst (λ (x : List ServerMessage). length x ≤ MOST_HEARD) (sym h) st.few;
-            continues = st.continues;
-          };
-          waited = st.waits;
+  -- the connection was renewed
+  pub after_renewal : (put : ℕ) (talk talk' : Talk) (s : S) (w : W) (a b : View) → (st : Stands manner tells begun [] put talk s w a) → talk.came ≡ true → talk' ≡ record talk { came = false } → (tells → Renews a.1 b.1) → b.0 ≡ a.0 → Stands manner tells begun [] put talk' s w b
+  after_renewal put talk talk' s w a b st came is renews counts =
+      let h = st.holds in
+      let both = rounds_renewed manner tells (open_of a.1) (open_of b.1) h.events put talk talk' h.rounds st.round came is (λ t. (renews t).looks) (λ t. (renews t).renewed) (λ t. (renews t).some) in record {
+        holds = record {
+          events = h.events;
+          talks = h.talks;
+          taken = h.taken;
+          first = firsts_later tells (open_of a.1).output (open_of b.1).output h.events (λ t. no_more (open_of a.1).output (open_of b.1).output (renews t).output) h.first;
+          good = h.good;
+          count = ap (λ (x : Talk). x.heard) is ∙ h.count;
+          few = h.few;
+          hears = λ t. subst (λ (r : List ℕ). Hears (open_of b.1) h.events [] r) (sym (ap (λ (x : Talk). x.framer) is)) (hears_same (open_of a.1) (open_of b.1) h.events [] talk.framer (h.hears t) (renews t).input (renews t).looks (no_more (open_of a.1).output (open_of b.1).output (renews t).output));
+          rounds = both.0;
+          late_last = h.late_last;
+          stays = λ t. stays_then begun.1 a.1 b.1 (h.stays t) (renews t).stays;
+          made = λ t. (renews t).stays.connected ∙ h.made t;
+          room = ap (λ (x : Talk). length x.buffer.items) is ∙ h.room;
+          continues = subst (λ (x : LinkCounts). Continues begun.0 x) (sym counts) h.continues;
         };
+        timely = st.timely;
+        puts = puts_same None tells (open_of a.1).output (open_of b.1).output (said h.events) (λ t. (renews t).output) st.puts;
+        faults = ap (λ (x : LinkCounts). x.faults) counts ∙ st.faults;
+        full = ap (λ (x : LinkCounts). x.full) counts ∙ st.full;
+        waits = ap (λ (x : LinkCounts). x.waits) counts ∙ st.waits;
+        unheard = λ t. subst (λ (r : List ℕ). Unheard (open_of b.1) [] r) (sym (ap (λ (x : Talk). x.framer) is)) (unheard_same (open_of a.1) (open_of b.1) [] talk.framer (st.unheard t) (renews t).looks (renews t).input (renews t).output);
+        since = st.since;
+        round = both.1;
       }
 
-  -- a late message wasn't taken, since the speaker failed
-  pub late_failed : (least : ℕ) (m : ServerMessage) (talk : Talk) (s s' : S) (w w' : W) (now : View) (fault : F) → (st : Stands T J Q O tells begun (m ∷ []) least talk s w now)
-      → O s ≡ false → J s m ≡ judged.Takes → AreTimely tells (open_of now.1).output begun.0 now.0 (st.events ++ as_late m) → Fails s' w' (st.events ++ as_late m) fault → Breaks T Fails J Q O tells begun s' w' now (faults.Speaker fault)
-  late_failed least m talk s s' w w' now fault st wants takes late fails =
-      let e = said_late st.events m in
-      let h = heard_late st.events m in
-      record {
-        stays = st.stays;
-        broke = record {
-          events = st.events ++ as_late m;
-          fails = (fails, taken_late T J Q O tells begun least m talk s w now st wants takes);
-          rest = talk.framer;
-          matches = record {
-            hears = λ t. subst (λ (x : List ServerMessage). HasHeard (open_of now.1).input x talk.framer) (sym (append-nil (heard (st.events ++ as_late m)) ∙ h)) (st.hears t);
-            puts = subst (λ (x : List ClientMessage). PutsPart tells (open_of now.1).output x) (sym e) (by_part (halt_of talk.spoken) tells (open_of now.1).output (said st.events) st.puts);
-            first = at_each_late _ _ st.events m st.first tt;
-            late = late;
-            made = λ t. inl (st.made t);
-            few = subst (λ (x : List ServerMessage). length x ≤ MOST_HEARD) (sym h) st.few;
-            continues = st.continues;
-          };
-          waited = st.waits;
-        };
-      }
+  -- the connection was renewed, if that was due
+  pub after_refresh : (put : ℕ) (fresh : Bool) (talk talk' : Talk) (s : S) (w : W) (a b : View) → Stands manner tells begun [] put talk s w a → fresh ≡ talk.came → talk' ≡ record talk { came = false } → (fresh ≡ true → tells → Renews a.1 b.1) → (fresh ≡ false → b.1 ≡ a.1) → b.0 ≡ a.0 → Stands manner tells begun [] put talk' s w b
+  after_refresh put true talk talk' s w a b st came is renews same counts = after_renewal put talk talk' s w a b st (sym came) is (renews refl) counts
+  after_refresh put false talk talk' s w a b st came is renews same counts =
+      subst (λ (x : Talk). Stands manner tells begun [] put x s w b) (sym (is ∙ ap (λ (c : Bool). let t : Talk = record talk { came = c } in t) came))
+      (subst (λ (x : LinkCounts). Stands manner tells begun [] put talk s w (x, b.1)) (sym counts) (subst (λ (x : LinkState). Stands manner tells begun [] put talk s w (a.0, x)) (sym (same refl)) st))
 
-  -- memory ran out for what was read
-  pub read_broken : (kept came : Type 0) (least : ℕ) (talk talk' : Talk) (s : S) (w : W) (a b : View)
-      → Stands T J Q O tells begun [] least talk s w a → HasRead tells kept talk.framer talk'.framer a.1 b.1 → HasLooked came a.0 b.0 → came → Breaks T Fails J Q O tells begun s w b faults.NoMem
-  read_broken kept came least talk talk' s w a b st read counts here = record {
-    stays = λ t. stays_then begun.1 a.1 b.1 (st.stays t) (read.stays t);
-    broke = record {
-      events = st.events;
-      fails = (st.talks, st.taken);
-      rest = talk.framer ++ read.more;
-      matches = matches_read T J Q O tells begun kept came least talk talk' (talk.framer ++ read.more) s w a b st read counts refl;
-      waited = counts.waits here ∙ st.waits;
-    };
+  -- ---- After writing has stopped
+
+  -- the talk is the same
+  pub same_stopped : (halt : Halt) (talk talk' : Talk) (s : S) (w : W) (a : View) → talk' ≡ talk → Stopped manner tells begun [] halt talk s w a → Stopped manner tells begun [] halt talk' s w a
+  same_stopped halt talk talk' s w a e st = subst (λ (t : Talk). Stopped manner tells begun [] halt t s w a) (sym e) st
+
+  pub same_speaks : (put : ℕ) (talk talk' : Talk) (s : S) (w : W) (a : View) → talk' ≡ talk → Speaks manner tells begun [] put talk s w a → Speaks manner tells begun [] put talk' s w a
+  same_speaks put talk talk' s w a e sp = subst (λ (t : Talk). Speaks manner tells begun [] put t s w a) (sym e) sp
+
+  pub stopped_next : (halt : Halt) (m : ServerMessage) (talk talk' : Talk) (s : S) (w : W) (a : View) → Stopped manner tells begun [] halt talk s w a → BeginsWith m talk.framer talk'.framer → talk' ≡ record talk { framer = talk'.framer } → talk.heard < MOST_HEARD → Stopped manner tells begun (m ∷ []) halt talk' s w a
+  unfolding holds_next
+  stopped_next halt m talk talk' s w a st next is more = record {
+    holds = holds_next m talk talk' s w a st.holds next is more;
+    puts = st.puts;
+    less = st.less;
+    why = st.why;
+    full = st.full;
+    waits = st.waits;
+    wanting = st.wanting;
+    opened = st.opened;
   }
 
-  -- memory ran out after a step, before anything of it was put
-  pub unput_broken : (got : Option ServerMessage) (ms : List ClientMessage) (least : ℕ) (talk : Talk) (s s' : S) (w w' : W) (a b : View)
-      → (st : Stands T J Q O tells begun (as_list got) least talk s w a) → IfSome got (λ m. floor talk.spoken ≤ least) → IsGoing talk.spoken → O s ≡ false → IfSome got (λ m. J s m ≡ judged.Takes) → T s' w' (st.events ++ (as_heard got ++ all_said ms)) → b.1 ≡ a.1 → b.0 ≡ a.0 → Breaks T Fails J Q O tells begun s' w' b faults.NoMem
-  unput_broken got ms least talk s s' w w' a b st low going wants takes talks link counts =
-      let e = said_step st.events got ms in
-      let h = heard_step st.events got ms in
-      record {
-        stays = λ t. subst (λ (x : LinkState). StaysOpen begun.1 x) (sym link) (st.stays t);
-        broke = record {
-          events = st.events ++ (as_heard got ++ all_said ms);
-          fails = (talks, at_each_step _ _ st.events got ms st.taken (taken_in_time T J Q O tells begun got least talk s w a st low going wants takes));
-          rest = talk.framer;
-          matches = record {
-            hears = λ t. subst (λ (x : LinkState). HasHeard (open_of x).input (heard (st.events ++ (as_heard got ++ all_said ms)) ++ []) talk.framer) (sym link) (subst (λ (x : List ServerMessage). HasHeard (open_of a.1).input x talk.framer) (sym (append-nil (heard (st.events ++ (as_heard got ++ all_said ms))) ∙ h)) (st.hears t));
-            puts = subst (λ (x : LinkState). PutsPart tells (open_of x).output (said (st.events ++ (as_heard got ++ all_said ms)))) (sym link)
-                (subst (λ (x : List ClientMessage). PutsPart tells (open_of a.1).output x) (sym e) (part_more tells (open_of a.1).output (said st.events) ms (by_part (halt_of talk.spoken) tells (open_of a.1).output (said st.events) st.puts)));
-            first = subst (λ (x : LinkState). ArePutFirst tells (open_of x).output (st.events ++ (as_heard got ++ all_said ms))) (sym link)
-                (at_each_step _ _ st.events got ms st.first (put_in_time T J Q O tells begun got (as_list got) least talk s w a (open_of a.1).output st going (λ t. ([], sym (append-nil (open_of a.1).output)))));
-            late = inl (in_time_step st.events got ms (subst (λ x. IsTimelyBy x st.events) going st.timely));
-            made = λ t. inl (ap (λ (x : LinkState). (open_of x).connected) link ∙ st.made t);
-            few = subst (λ (x : List ServerMessage). length x ≤ MOST_HEARD) (sym h) st.few;
-            continues = subst (λ (x : LinkCounts). Continues begun.0 x) (sym counts) st.continues;
-          };
-          waited = ap (λ (x : LinkCounts). x.waits) counts ∙ st.waits;
+  -- a message was late
+  pub stopped_late : (halt : Halt) (m : ServerMessage) (talk talk' : Talk) (s s' : S) (w w' : W) (now : View) → (st : Stopped manner tells begun (m ∷ []) halt talk s w now) → manner.judges s m ≡ judged.Takes → manner.talks s' w' (st.holds.events ++ as_late m) → text_of m ≡ None → manner.wants s' ≡ wants.More → manner.opened s'
+      → talk' ≡ record talk { heard = talk.heard + 1 } → Stopped manner tells begun [] halt talk' s' w' now
+  stopped_late halt m talk talk' s s' w w' now st takes talks good wanting opened is =
+      subst (λ (x : Talk). Stopped manner tells begun [] halt x s' w' now) (sym is) (
+      let h = st.holds in
+      let e = heard_late h.events m in
+      let k = said_late h.events m in record {
+        holds = record {
+          events = h.events ++ as_late m;
+          talks = talks;
+          taken = at_each_late _ _ h.events m h.taken (takes_one m s w h.events h.talks (λ none. cc) takes);
+          first = at_each_late _ _ h.events m h.first tt;
+          good = subst AreGood (sym e) (all_append (λ x. text_of x ≡ None) (heard h.events) (m ∷ []) h.good (good, tt));
+          count = let c = h.count in let l = ap length e in omega (arith, c, l, length-append (heard h.events) (m ∷ []));
+          few = subst (λ (x : List ServerMessage). length x ≤ MOST_HEARD) (sym (append-nil (heard (h.events ++ as_late m)) ∙ e)) h.few;
+          hears = λ t. hears_late (open_of now.1) h.events m talk.framer (h.hears t);
+          rounds = rounds_late manner tells (open_of now.1) h.events m h.rounds;
+          late_last = late_more h.events m h.late_last;
+          stays = h.stays;
+          made = h.made;
+          room = h.room;
+          continues = h.continues;
         };
+        puts = subst (λ (x : List ClientMessage). PutsBy (Some halt) tells (open_of now.1).output x) (sym k) st.puts;
+        less = subst (λ (x : List ClientMessage). IsUnput tells (open_of now.1).output x) (sym k) st.less;
+        why = st.why;
+        full = st.full;
+        waits = st.waits;
+        wanting = wanting;
+        opened = opened;
+      })
+
+  -- a read, well or not
+  pub stopped_read : (halt : Halt) (kept failed here : Type 0) (talk talk' : Talk) (s : S) (w : W) (a b : View) → (st : Stopped manner tells begun [] halt talk s w a) → kept → (read : HasRead tells kept failed false talk.framer talk'.framer a.1 b.1) → ((failed → ⊥) ⊎ failed) → talk' ≡ record talk { framer = talk'.framer; buffer = talk'.buffer }
+      → length talk'.buffer.items ≡ BUFFER → HasLooked failed here a.0 b.0 → here → Stopped manner tells begun [] halt talk' s w b
+  unfolding holds_read
+  stopped_read halt kept failed here talk talk' s w a b st k read which is room counts so =
+      let h = st.holds in
+      let less : IsUnput tells (open_of b.1).output (said h.events) = less_same tells (open_of a.1).output (open_of b.1).output (said h.events) read.output st.less in
+      let rounds : GoesInRounds manner tells (open_of b.1) h.events = elim which [
+        | inl not ↦ rounds_late_look manner tells (open_of a.1) (open_of b.1) h.events (length read.more) h.rounds less (λ t. read.looked t not)
+        | inr failed ↦ rounds_kept manner tells (open_of a.1) (open_of b.1) h.events h.rounds read.output (λ t. (read.none t failed).1)
+      ] in record {
+        holds = holds_read kept failed false talk talk' s w a b h k read which is room counts.continues rounds;
+        puts = puts_same (Some halt) tells (open_of a.1).output (open_of b.1).output (said h.events) read.output st.puts;
+        less = less;
+        why = halted_before begun.0 a.0 b.0 halt st.why counts.continues;
+        full = λ other. counts.full ∙ st.full other;
+        waits = counts.waits so ∙ st.waits;
+        wanting = st.wanting;
+        opened = st.opened;
       }
 
--- ---- Small facts
+  -- ---- A read that ends it
 
-pub empty_of : {A : Type 0} (xs : List A) → length xs ≡ 0 → xs ≡ []
-empty_of [] e = refl
-empty_of (x ∷ xs) e = absurd (omega (arith, e))
-
--- writing stopped for this cause, if it did
-pub halted_by : (s : Spoken) (o : Option Halt) (a b : LinkCounts) → halt_of s ≡ o → IfSome o (IsHaltedBy a b) → (halt : Halt) → s ≡ spoken.Halted halt → IsHaltedBy a b halt
-halted_by s o a b e h halt is = let k : o ≡ Some halt = sym e ∙ ap halt_of is in subst (λ (x : Option Halt). IfSome x (IsHaltedBy a b)) k h
-
-pub empty_by : {A : Type 0} (xs : List A) → nat_eq (length xs) 0 ≡ true → xs ≡ []
-empty_by xs e = empty_of xs (zero_by (length xs) e)
-  where
-    zero_by : (n : ℕ) → nat_eq n 0 ≡ true → n ≡ 0
-    zero_by n e = grind (arith, nat_tests)
-
-pub some_by : {A : Type 0} (xs : List A) → nat_eq (length xs) 0 ≡ false → xs ≢ []
-some_by xs e is = absurd (let x : nat_eq (length xs) 0 ≡ true = ap (λ l. nat_eq (length l) 0) is in cc)
+  -- it was looked what came, in vain or not, or the read failed
+  pub looked_holds : (kept failed here : Type 0) (put : ℕ) (quiet : Bool) (talk talk' : Talk) (s : S) (w : W) (a b : View) → (st : Stands manner tells begun [] put talk s w a) → Paused manner quiet put s → talk.came ≡ false → kept → (read : HasRead tells kept failed quiet talk.framer talk'.framer a.1 b.1) → ((failed → ⊥) ⊎ failed)
+      → talk' ≡ record talk { framer = talk'.framer; buffer = talk'.buffer } → length talk'.buffer.items ≡ BUFFER → HasLooked failed here a.0 b.0 → (h : Holds manner tells begun [] talk' s w b) × (h.events ≡ st.holds.events)
+  unfolding holds_read
+  looked_holds kept failed here put quiet talk talk' s w a b st paused came k read which is room counts =
+      let h = st.holds in
+      let same = same_kept talk talk' is in
+      let rounds : GoesInRounds manner tells (open_of b.1) h.events = elim which [
+        | inl not ↦ (rounds_looked manner tells (open_of a.1) (open_of b.1) h.events (length read.more) put quiet talk talk' s w h.rounds st.round h.talks paused st.puts (λ t. read.looked t not) came same.1 same.2 (same.3 ∙ came)).0
+        | inr failed ↦ rounds_kept manner tells (open_of a.1) (open_of b.1) h.events h.rounds read.output (λ t. (read.none t failed).1)
+      ] in (holds_read kept failed quiet talk talk' s w a b h k read which is room counts.continues rounds, refl)

@@ -1,4 +1,10 @@
 pub mod Events
+pub mod Manner
+pub mod Taken
+pub mod Progress
+pub mod Judging
+pub mod Hears
 pub mod Puts
+pub mod Rounds
 pub mod Ends
 pub mod Stands

@@ -1,5 +1,5 @@
 -- How much of what was said was written.
-use Rattle.std.specs.Prelude.{◌≡◌, ◌≤◌, ◌<◌, ℕ, List, [], ◌∷◌, ◌++◌, length}
+use Rattle.std.specs.Prelude.{◌≡◌, ◌<◌, ℕ, List, [], ◌∷◌, ◌++◌, length}
 use Rattle.std.specs.List.{AllByRecursion}
 use Rattle.lsv_defs.specs.Pieces.{IsPrefix}
 use Rattle.lsv_wire.specs.Frame.{IsMessage}

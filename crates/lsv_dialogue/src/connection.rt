@@ -1,13 +1,12 @@
-ghost use Rattle.std.specs.Prelude.{◌≡◌, [], false, IfOk, IfErr};
-ghost use Rattle.lsv_dialogue.specs.Ends.{Broke, Ended, Finished, Ran, Wants};
-ghost use Rattle.lsv_dialogue.specs.Events.{Failing, Taking};
+ghost use Rattle.std.specs.Prelude.{◌≡◌, [], IfOk, IfErr};
+ghost use Rattle.lsv_dialogue.specs.Ends.{Broke, Ended, Ran};
 
-use crate::{Cause, End, Speaker, TalkFault, converse};
+use crate::{Cause, End, Speaker, TalkFault, Wants, converse};
 use lsv_link::Link;
 use std::alloc::Global;
 
-/// Connects to a host, `host:port` or `[address]:port`, converses, and closes the connection. If the host doesn't answer,
-/// the speaker isn't asked for anything, and the end is `Failed`. A speaker that has what it wanted isn't run.
+/// Connects to a host, `host:port` or `[address]:port`, converses, and closes the connection. If the connection can't be
+/// made, the speaker isn't asked for anything, and the end is `Unreached`. A speaker that doesn't want to go on isn't run.
 pub fn run<W, S: Speaker<W>, L: Link>(
     alloc: Global,
     speaker: &mut S,
@@ -15,17 +14,15 @@ pub fn run<W, S: Speaker<W>, L: Link>(
     link: &mut L,
     host: &str,
 ) -> Result<End, TalkFault<S::Fault>>
-    requires begun { (start : S.Start) × S.talks start speaker.old world.old [] }
-    requires wants { S.over speaker.old ≡ false }
-    ensures ended { IfOk result (λ end. (start : S.Start) → S.talks start speaker.old world.old [] → Ran L.tells host.now (L.state link.old) (L.state link.new)
-        (λ conn. Ended (Taking (S.talks start) S.judges S.is_quiet S.over speaker.new world.new) (S.judges speaker.new) (S.over speaker.new) (S.is_quiet speaker.new) L.tells (L.counts link.old) (L.counts link.new) conn end)) }
-    ensures finished { IfOk result (λ end. (start : S.Start) → S.talks start speaker.old world.old [] → Ran L.tells host.now (L.state link.old) (L.state link.new)
-        (λ conn. Finished (Wants (S.talks start) S.over S.is_quiet) (Taking (S.talks start) S.judges S.is_quiet S.over speaker.new world.new) (S.judges speaker.new) (S.over speaker.new) (S.is_quiet speaker.new) L.tells (L.counts link.old) (L.counts link.new) conn end)) }
-    ensures broke { IfErr result (λ fault. (start : S.Start) → S.talks start speaker.old world.old [] → Ran L.tells host.now (L.state link.old) (L.state link.new)
-        (λ conn. Broke (Taking (S.talks start) S.judges S.is_quiet S.over speaker.new world.new) (Failing (S.fails start) (S.talks start) S.judges S.is_quiet S.over speaker.new world.new) L.tells (L.counts link.old) (L.counts link.new) conn fault)) }
+    requires begun { (start : S.Start) × (S.manner start).talks speaker.old world.old [] }
+    requires wants { (start : S.Start) → (S.manner start).wants speaker.old ≡ Wants.More }
+    ensures ended { IfOk result (λ end. (start : S.Start) → (S.manner start).talks speaker.old world.old [] → Ran L.tells host.now (L.state link.old) (L.state link.new)
+        (λ conn. Ended (S.manner start) L.tells speaker.new world.new (L.counts link.old) (L.counts link.new) conn end)) }
+    ensures broke { IfErr result (λ fault. (start : S.Start) → (S.manner start).talks speaker.old world.old [] → Ran L.tells host.now (L.state link.old) (L.state link.new)
+        (λ conn. Broke (S.manner start) L.tells speaker.new world.new (L.counts link.old) (L.counts link.new) conn fault)) }
 {
     if link.connect(host).is_err() {
-        return Ok(End::Stopped(Cause::Failed));
+        return Ok(End::Stopped(Cause::Unreached));
     }
     let ended = converse(alloc, speaker, world, link);
     link.close();

@@ -3,8 +3,11 @@ ghost use Rattle.std.specs.Prelude.{◌≡◌};
 use lsv_base::{Bytes, NoMem, Point};
 use lsv_msg::MsgFault;
 
-/// After this many messages put it is looked whether something came.
+/// At most this many messages are said before it is looked again whether something came.
 pub const MOST_PUT: usize = 16;
+
+/// No identifier of a server is longer, in bytes.
+pub const LONGEST_ID: usize = 4_096;
 
 /// The most messages that are heard on one connection.
 pub const MOST_HEARD: u32 = 1_048_576;
@@ -20,14 +23,27 @@ pub enum Judged {
     LongId(u64),
 }
 
+/// What a speaker wants of a conversation.
+#[derive(Clone, Copy, Debug, PartialEq, Eq)]
+pub enum Wants {
+    /// To go on.
+    More,
+    /// All was said and answered. The connection is read on to its end.
+    End,
+    /// Nothing. The connection is closed.
+    Nothing,
+}
+
 /// Why a conversation stopped.
 #[derive(Debug, Drop)]
 pub enum Cause {
-    /// A write, or a read that may wait, waited for nothing.
+    /// The connection couldn't be made.
+    Unreached,
+    /// 30 s went by without progress: no message was put, no identifier came, and no commit point above the last one.
     NotYet,
     /// The connection's input ended.
     Ended,
-    /// The connection couldn't be made, or a read or a write failed.
+    /// A read or a write failed.
     Failed,
     /// The server said an error or an abort, with this text.
     Said(Bytes),
@@ -48,7 +64,8 @@ pub enum Cause {
 /// How a conversation ended.
 #[derive(Debug, Drop)]
 pub enum End {
-    /// The speaker has what it wanted.
+    /// The speaker has what it wanted: it wants nothing more; or it wants the connection's end, and the input ended after a
+    /// whole message, or nothing came for 30 s.
     Over,
     Stopped(Cause),
 }

@@ -7,6 +7,7 @@ mod conversation;
 mod drain;
 mod ends;
 mod hear;
+mod judging;
 mod put;
 mod read;
 mod speaker;
@@ -15,5 +16,6 @@ mod text;
 
 pub use connection::run;
 pub use conversation::converse;
-pub use ends::{Cause, End, Judged, MOST_HEARD, MOST_PUT, TalkFault};
+pub use ends::{Cause, End, Judged, LONGEST_ID, MOST_HEARD, MOST_PUT, TalkFault, Wants};
+pub use judging::judge;
 pub use speaker::Speaker;

@@ -58,13 +58,13 @@ impl Talk {
     pub(crate) fn read_more<L: Link>(&mut self, link: &mut L, wait: bool) -> Result<Came, NoMem>
         requires connected { L.tells → IsConnected (L.state link.old) }
         requires room { length self.old.buffer.items ≡ BUFFER }
-        ensures read { HasRead L.tells (IsOk result) self.old.framer self.new.framer (L.state link.old) (L.state link.new) }
+        ensures read { HasRead L.tells (IsOk result) (result ≡ Ok Came.Failed) wait self.old.framer self.new.framer (L.state link.old) (L.state link.new) }
         ensures none { IfOk result (λ came. came ≢ Came.More → self.new.framer ≡ self.old.framer) }
         ensures dry { L.tells → IfOk result (λ came. came ≢ Came.More → (open_of (L.state link.new)).dry ≡ true) }
         ensures ended { L.tells → IfOk result (λ came. came ≡ Came.End → (open_of (L.state link.new)).ended ≡ true) }
         ensures waited { IfOk result (λ came. came ≡ Came.Nothing → wait ≡ true → HasRisen (L.counts link.old).waits (L.counts link.new).waits) }
         ensures failed { IfOk result (λ came. came ≡ Came.Failed → HasRisen (L.counts link.old).faults (L.counts link.new).faults) }
-        ensures counts { HasLooked (result ≡ Ok Came.Nothing → wait ≡ true → ⊥) (L.counts link.old) (L.counts link.new) }
+        ensures counts { HasLooked (result ≡ Ok Came.Failed) (result ≡ Ok Came.Nothing → wait ≡ true → ⊥) (L.counts link.old) (L.counts link.new) }
         ensures rest { self.new ≡ record self.old { framer = self.new.framer; buffer = self.new.buffer } }
         ensures refused { OnErr result (self.new.framer ≡ self.old.framer) }
         ensures room { length self.new.buffer.items ≡ BUFFER }

@@ -1,16 +1,16 @@
 //! How a conversation stands, and what is said in it.
 
-ghost use Rattle.std.specs.Prelude.{◌≡◌, ◌≢◌, ◌+◌, ◌≤◌, ℕ, [], length, false, None, IfOk, IfErr, IfSome, OnOk};
-ghost use Rattle.std.specs.Option.{option_copied};
-ghost use Rattle.lsv_dialogue.specs.Events.{text_of};
-ghost use Rattle.lsv_dialogue.specs.declared.ends.Judged.TheVariants as judged;
-ghost use Rattle.lsv_dialogue.specs.Stands.{Breaks, IsGoing, Stands, View, as_list, floor, halt_of, since};
+ghost use Rattle.std.specs.Prelude.{◌≡◌, ◌≢◌, ◌⊎◌, ◌+◌, ◌≤◌, ◌<◌, ℕ, [], length, IfOk, IfErr, OnErr};
+ghost use Rattle.lsv_link.specs.Link.{IsConnected};
+ghost use Rattle.lsv_wire.specs.Frame.{IsPartial};
+ghost use Rattle.lsv_dialogue.specs.Ends.{IsFresh};
+ghost use Rattle.lsv_dialogue.specs.Stands.{Breaks, Goes, IsNew, SaidSo, Sends, Speaks, View};
 
 use crate::put::put_all;
-use crate::{MOST_PUT, Speaker, TalkFault};
+use crate::{End, MOST_PUT, Speaker, TalkFault, Wants};
 use lsv_base::NoMem;
 use lsv_link::Link;
-use lsv_msg::ServerMessage;
+use lsv_msg::ClientMessage;
 use lsv_wire::Framer;
 use std::alloc::Global;
 
@@ -23,13 +23,13 @@ pub(crate) enum Halt {
     TooLong(u64),
 }
 
-/// How far it was said what may be said.
+/// What came of saying.
 #[derive(Clone, Copy, Debug, PartialEq, Eq)]
 pub(crate) enum Spoken {
     /// Nothing more may be said before a further message.
     Quiet,
-    /// More may be said.
-    Owing,
+    /// This many messages were said, and put.
+    Said(usize),
     Halted(Halt),
 }
 
@@ -42,40 +42,21 @@ pub(crate) struct Talk {
     pub(crate) buffer: Vec<u8>,
     /// How many messages were heard.
     pub(crate) heard: u32,
-    pub(crate) spoken: Spoken,
+    /// Whether an identifier was heard.
+    pub(crate) known: bool,
+    /// One more than the greatest commit point that was heard, in nanoseconds, or 0.
+    pub(crate) top: u64,
+    /// Whether what was heard since the last read was progress.
+    pub(crate) came: bool,
 }
 
 /// The room for one read, in bytes.
 pub(crate) const BUFFER: usize = 65_536;
 
-/// How many messages these are.
-fn count(got: Option<&ServerMessage>) -> u32
-    ensures { result ≡ length (as_list (option_copied got.entry)) }
-{
-    match got {
-        Some(_) => 1,
-        None => 0,
-    }
-}
-
-/// More may be said, if writing wasn't stopped.
-fn spoken_by(halt: Option<Halt>) -> Spoken
-    ensures halt { halt_of result ≡ halt }
-    ensures not_quiet { result ≡ Spoken.Quiet → ⊥ }
-{
-    match halt {
-        Some(halt) => Spoken::Halted(halt),
-        None => Spoken::Owing,
-    }
-}
-
 impl Talk {
     /// Nothing was said or heard.
     pub(crate) fn new(alloc: Global) -> Result<Talk, NoMem>
-        ensures framer { IfOk result (λ talk. talk.framer ≡ []) }
-        ensures buffer { IfOk result (λ talk. length talk.buffer.items ≡ BUFFER) }
-        ensures heard { IfOk result (λ talk. talk.heard ≡ 0) }
-        ensures spoken { IfOk result (λ talk. talk.spoken ≡ Spoken.Owing) }
+        ensures { IfOk result IsNew }
     {
         let mut buffer = Vec::new(alloc);
         buffer.resize(BUFFER, 0u8)?;
@@ -84,73 +65,124 @@ impl Talk {
             framer: Framer::new(alloc),
             buffer,
             heard: 0,
-            spoken: Spoken::Owing,
+            known: false,
+            top: 0,
+            came: false,
         })
     }
 
-    /// Does a step with this message, if there is one, and puts what it says. Gives how many messages were put.
-    pub(crate) fn step<W, S: Speaker<W>, L: Link>(
+    /// Puts these messages, after others in this round. If all were put, the connection is renewed.
+    fn put<L: Link>(
+        &self,
+        link: &mut L,
+        messages: &[ClientMessage],
+        others: usize,
+    ) -> Result<Spoken, NoMem>
+        requires connected { L.tells → IsConnected (L.state link.old) }
+        requires few { others + length messages.now ≤ MOST_PUT }
+        ensures sends { IfOk result (λ spoken. Sends others spoken L.tells messages.now (L.counts link.old, L.state link.old) (L.counts link.new, L.state link.new)) }
+        ensures same { OnErr result ((L.state link.new ≡ L.state link.old) × (L.counts link.new ≡ L.counts link.old)) }
+    {
+        if messages.is_empty() {
+            return Ok(Spoken::Said(others));
+        }
+        if let Some(halt) = put_all(self.alloc, link, messages)? {
+            return Ok(Spoken::Halted(halt));
+        }
+        link.renew();
+        Ok(Spoken::Said(others + messages.len()))
+    }
+
+    /// Opens the conversation, and says on.
+    pub(crate) fn open<W, S: Speaker<W>, L: Link>(
         &mut self,
         speaker: &mut S,
         world: &mut W,
         link: &mut L,
-        got: Option<&ServerMessage>,
-    ) -> Result<usize, TalkFault<S::Fault>>
-        requires stands { (start : S.Start) × (begun : View) × (least : ℕ) × Stands (S.talks start) S.judges S.is_quiet S.over L.tells begun (as_list (option_copied got)) least self.old speaker.old world.old (L.counts link.old, L.state link.old) }
-        requires going { IsGoing self.old.spoken }
-        requires wants { S.over speaker.old ≡ false }
-        requires takes { IfSome (option_copied got) (λ message. S.judges speaker.old message ≡ judged.Takes) }
-        requires good { IfSome (option_copied got) (λ message. text_of message ≡ None) }
-        ensures stands { IfOk result (λ n. (start : S.Start) (begun : View) (least : ℕ) → IfSome (option_copied got.entry) (λ message. floor self.old.spoken ≤ least) → Stands (S.talks start) S.judges S.is_quiet S.over L.tells begun (as_list (option_copied got.entry)) least self.old speaker.old world.old (L.counts link.old, L.state link.old)
-            → Stands (S.talks start) S.judges S.is_quiet S.over L.tells begun [] (since (option_copied got.entry) least + n) self.new speaker.new world.new (L.counts link.new, L.state link.new)) }
-        ensures some { IfOk result (λ n. self.new.spoken ≡ Spoken.Owing → 1 ≤ n) }
-        ensures wants { OnOk result (self.new.spoken ≢ Spoken.Quiet → S.over speaker.new ≡ false) }
-        ensures broke { IfErr result (λ fault. (start : S.Start) (begun : View) (least : ℕ) → IfSome (option_copied got.entry) (λ message. floor self.old.spoken ≤ least) → Stands (S.talks start) S.judges S.is_quiet S.over L.tells begun (as_list (option_copied got.entry)) least self.old speaker.old world.old (L.counts link.old, L.state link.old)
-            → Breaks (S.talks start) (S.fails start) S.judges S.is_quiet S.over L.tells begun speaker.new world.new (L.counts link.new, L.state link.new) fault) }
+    ) -> Result<Option<End>, TalkFault<S::Fault>>
+        requires begun { (start : S.Start) × (S.manner start).talks speaker.old world.old [] }
+        requires wants { (start : S.Start) → (S.manner start).wants speaker.old ≡ Wants.More }
+        requires fresh { L.tells → IsFresh (L.state link.old) }
+        requires new { IsNew self.old }
+        ensures goes { IfOk result (λ end. (start : S.Start) → (S.manner start).talks speaker.old world.old [] → Goes (S.manner start) L.tells (L.counts link.old, L.state link.old) end self.new speaker.new world.new (L.counts link.new, L.state link.new)) }
+        ensures broke { IfErr result (λ fault. (start : S.Start) → (S.manner start).talks speaker.old world.old [] → Breaks (S.manner start) L.tells (L.counts link.old, L.state link.old) speaker.new world.new (L.counts link.new, L.state link.new) fault) }
     {
-        let messages = match speaker.step(world, got) {
+        let opening = match speaker.open(world) {
             Ok(messages) => messages,
             Err(fault) => return Err(TalkFault::Speaker(fault)),
         };
-        self.heard += count(got);
-        let next = messages.as_slice();
-        if next.is_empty() {
-            self.spoken = Spoken::Quiet;
-            return Ok(0);
-        }
-        let Ok(halt) = put_all(self.alloc, link, next) else {
+        let Ok(spoken) = self.put(link, opening.as_slice(), 0) else {
             return Err(TalkFault::NoMem);
         };
-        self.spoken = spoken_by(halt);
-        Ok(next.len())
+        match spoken {
+            Spoken::Halted(halt) => Ok(Some(self.drain(speaker, world, link, halt)?)),
+            Spoken::Said(put) => self.go_on(speaker, world, link, put),
+            Spoken::Quiet => unreachable!(),
+        }
     }
 
-    /// Says what may be said, until nothing may be or 16 messages were put.
+    /// Does a step, and puts what it says, after this many other messages in this round.
+    fn step<W, S: Speaker<W>, L: Link>(
+        &mut self,
+        speaker: &mut S,
+        world: &mut W,
+        link: &mut L,
+        put: usize,
+    ) -> Result<Spoken, TalkFault<S::Fault>>
+        requires speaks { (start : S.Start) × (begun : View) × Speaks (S.manner start) L.tells begun [] put self.old speaker.old world.old (L.counts link.old, L.state link.old) }
+        requires wants { (start : S.Start) → (S.manner start).wants speaker.old ≢ Wants.Nothing }
+        requires partial { IsPartial self.old.framer }
+        requires room { put < MOST_PUT }
+        ensures says { IfOk result (λ spoken. (start : S.Start) (begun : View) → Speaks (S.manner start) L.tells begun [] put self.old speaker.old world.old (L.counts link.old, L.state link.old) → SaidSo (S.manner start) L.tells begun spoken self.new speaker.new world.new (L.counts link.new, L.state link.new)) }
+        ensures more { IfOk result (λ spoken. (n : ℕ) → spoken ≡ Spoken.Said n → (put < n) × (n ≤ MOST_PUT)) }
+        ensures broke { IfErr result (λ fault. (start : S.Start) (begun : View) → Speaks (S.manner start) L.tells begun [] put self.old speaker.old world.old (L.counts link.old, L.state link.old) → Breaks (S.manner start) L.tells begun speaker.new world.new (L.counts link.new, L.state link.new) fault) }
+        ensures rest { self.new ≡ self.old }
+        ensures wants { IfOk result (λ spoken. spoken ≢ Spoken.Quiet → (start : S.Start) → (S.manner start).wants speaker.new ≡ Wants.More) }
+    {
+        let messages = match speaker.step(world, MOST_PUT - put) {
+            Ok(messages) => messages,
+            Err(fault) => return Err(TalkFault::Speaker(fault)),
+        };
+        let next = messages.as_slice();
+        if next.is_empty() {
+            return Ok(Spoken::Quiet);
+        }
+        let Ok(spoken) = self.put(link, next, put) else {
+            return Err(TalkFault::NoMem);
+        };
+        Ok(spoken)
+    }
+
+    /// Says what may be said, until nothing may be or 16 messages were put in this round.
     pub(crate) fn say_on<W, S: Speaker<W>, L: Link>(
         &mut self,
         speaker: &mut S,
         world: &mut W,
         link: &mut L,
-    ) -> Result<(), TalkFault<S::Fault>>
-        requires stands { (start : S.Start) × (begun : View) × Stands (S.talks start) S.judges S.is_quiet S.over L.tells begun [] 0 self.old speaker.old world.old (L.counts link.old, L.state link.old) }
-        requires going { IsGoing self.old.spoken }
-        requires wants { S.over speaker.old ≡ false }
-        ensures stands { OnOk result ((start : S.Start) (begun : View) → Stands (S.talks start) S.judges S.is_quiet S.over L.tells begun [] 0 self.old speaker.old world.old (L.counts link.old, L.state link.old)
-            → Stands (S.talks start) S.judges S.is_quiet S.over L.tells begun [] (floor self.new.spoken) self.new speaker.new world.new (L.counts link.new, L.state link.new)) }
-        ensures broke { IfErr result (λ fault. (start : S.Start) (begun : View) → Stands (S.talks start) S.judges S.is_quiet S.over L.tells begun [] 0 self.old speaker.old world.old (L.counts link.old, L.state link.old)
-            → Breaks (S.talks start) (S.fails start) S.judges S.is_quiet S.over L.tells begun speaker.new world.new (L.counts link.new, L.state link.new) fault) }
+        put: usize,
+    ) -> Result<Spoken, TalkFault<S::Fault>>
+        requires speaks { (start : S.Start) × (begun : View) × Speaks (S.manner start) L.tells begun [] put self.old speaker.old world.old (L.counts link.old, L.state link.old) }
+        requires wants { (start : S.Start) → (S.manner start).wants speaker.old ≡ Wants.More ⊎ ((put ≡ 0) × ((S.manner start).wants speaker.old ≢ Wants.Nothing)) }
+        requires partial { IsPartial self.old.framer }
+        requires few { put ≤ MOST_PUT }
+        ensures says { IfOk result (λ spoken. (start : S.Start) (begun : View) → Speaks (S.manner start) L.tells begun [] put self.old speaker.old world.old (L.counts link.old, L.state link.old) → SaidSo (S.manner start) L.tells begun spoken self.new speaker.new world.new (L.counts link.new, L.state link.new)) }
+        ensures full { IfOk result (λ spoken. (n : ℕ) → spoken ≡ Spoken.Said n → MOST_PUT ≤ n) }
+        ensures broke { IfErr result (λ fault. (start : S.Start) (begun : View) → Speaks (S.manner start) L.tells begun [] put self.old speaker.old world.old (L.counts link.old, L.state link.old) → Breaks (S.manner start) L.tells begun speaker.new world.new (L.counts link.new, L.state link.new) fault) }
+        ensures rest { self.new ≡ self.old }
+        ensures wants { IfOk result (λ spoken. spoken ≢ Spoken.Quiet → (start : S.Start) → (S.manner start).wants speaker.new ≡ Wants.More) }
     {
-        let mut put: usize = 0;
+        let mut all = put;
         'steps: for _ in 0..MOST_PUT {
-            if put >= MOST_PUT {
-                return Ok(());
+            if all >= MOST_PUT {
+                return Ok(Spoken::Said(all));
             }
-            let count = self.step(speaker, world, link, None)?;
-            match self.spoken {
-                Spoken::Owing => put = put.saturating_add(count),
-                Spoken::Quiet | Spoken::Halted(_) => return Ok(()),
+            let spoken = self.step(speaker, world, link, all)?;
+            match spoken {
+                Spoken::Said(count) => all = count,
+                Spoken::Quiet => return Ok(Spoken::Quiet),
+                Spoken::Halted(halt) => return Ok(Spoken::Halted(halt)),
             }
         }
-        Ok(())
+        Ok(Spoken::Said(all))
     }
 }

@@ -1,5 +1,5 @@
 -- What is known of an outgoing link, and what each answer of it says.
-use Rattle.std.specs.Prelude.{◌≡◌, ◌≢◌, ◌⊎◌, ℕ, ◌≤◌, Bool, true, false, List, [], ◌∷◌, ◌++◌, take, Option, Some, None, option_map, unwrap_or, Result, Ok, Err}
+use Rattle.std.specs.Prelude.{◌≡◌, ◌≢◌, ◌⊎◌, ℕ, ◌≤◌, Bool, true, false, List, [], ◌∷◌, ◌++◌, length, take, Option, Some, None, option_map, unwrap_or, Result, Ok, Err}
 use Rattle.lsv_defs.specs.Causes.{HasRisen}
 use Rattle.lsv_base.specs.Script.{one_more}
 use Rattle.lsv_port.specs.declared.port.Took.{Took}
@@ -7,6 +7,7 @@ use Rattle.lsv_port.specs.declared.port.Took.TheVariants as took
 use Rattle.lsv_port.specs.declared.port.Gave.{Gave}
 use Rattle.lsv_port.specs.declared.port.Gave.TheVariants as gave
 use Rattle.lsv_link.specs.declared.connection.Connection.{Connection}
+use Rattle.lsv_link.specs.declared.connection.Look.{Look}
 use Rattle.lsv_link.specs.declared.link.LinkFault.{LinkFault}
 
 -- the connections that were closed or failed, in order, the one that is open, and the number of failed ones that are missing among them, since a link in memory had no room
@@ -28,7 +29,7 @@ pub record IsConnected (s : LinkState) : Type 0 where
 
 -- a connection to this host on which nothing was read or written
 abbrev pub unused : List ℕ → Bool → Connection
-unused host connected = record { host = host; connected = connected; input = []; output = []; ended = false; dry = false }
+unused host connected = record { host = host; connected = connected; input = []; output = []; ended = false; dry = false; looks = []; renewed = 0 }
 
 -- the connections, with one more if there is one
 abbrev pub joined : List Connection → Option Connection → List Connection
@@ -60,12 +61,20 @@ abbrev pub Connects : Result (Unit {0}) LinkFault → List ℕ → LinkState →
 Connects (Ok u) host old new = new ≡ after_connect host old
 Connects (Err fault) host old new = (new ≡ after_refusal host old) ⊎ (new ≡ after_miss old)
 
+-- a read now that gives n bytes: it notes how much had been written before it, whether it might wait, and how often the connection was renewed since the read before it
+abbrev pub look_of : (wait : Bool) → ℕ → Connection → Look
+look_of wait n conn = record { put = length conn.output; came = n; waited = wait; renewed = conn.renewed }
+
+-- the reads so far, and this one
+abbrev pub looks_after : (wait : Bool) → ℕ → Connection → List Look
+looks_after wait n conn = conn.looks ++ look_of wait n conn ∷ []
+
 -- the connection after a read with this answer, if its buffer then holds these bytes
-abbrev pub read_on : Took → List ℕ → Connection → Connection
-read_on (took.Bytes n) buf conn = record conn { input = conn.input ++ take n buf; dry = false }
-read_on took.NotYet buf conn = record conn { dry = true }
-read_on took.End buf conn = record conn { ended = true; dry = true }
-read_on took.Failed buf conn = record conn { dry = true }
+abbrev pub read_on : Took → (wait : Bool) → List ℕ → Connection → Connection
+read_on (took.Bytes n) wait buf conn = record conn { input = conn.input ++ take n buf; dry = false; looks = looks_after wait n conn; renewed = 0 }
+read_on took.NotYet wait buf conn = record conn { dry = true; looks = looks_after wait 0 conn; renewed = 0 }
+read_on took.End wait buf conn = record conn { ended = true; dry = true; looks = looks_after wait 0 conn; renewed = 0 }
+read_on took.Failed wait buf conn = record conn { dry = true }
 
 -- the connection after a write of these bytes with this answer
 abbrev pub written_on : Gave → List ℕ → Connection → Connection
@@ -74,12 +83,20 @@ written_on gave.NotYet bytes conn = record conn { dry = false }
 written_on gave.Failed bytes conn = record conn { dry = false }
 
 -- the link after a read
-abbrev pub after_read : Took → List ℕ → LinkState → LinkState
-after_read answer buf s = record s { now = option_map (read_on answer buf) s.now }
+abbrev pub after_read : Took → (wait : Bool) → List ℕ → LinkState → LinkState
+after_read answer wait buf s = record s { now = option_map (read_on answer wait buf) s.now }
 
 -- the link after a write
 abbrev pub after_write : Gave → List ℕ → LinkState → LinkState
 after_write answer bytes s = record s { now = option_map (written_on answer bytes) s.now }
+
+-- the connection after it was renewed
+abbrev pub renewed_on : Connection → Connection
+renewed_on conn = record conn { renewed = one_more conn.renewed }
+
+-- the link after its open connection was renewed
+abbrev pub after_renew : LinkState → LinkState
+after_renew s = record s { now = option_map renewed_on s.now }
 
 -- no count fell
 pub record Continues (old new : LinkCounts) : Type 0 where

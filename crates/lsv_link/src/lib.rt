@@ -5,6 +5,6 @@ mod connection;
 mod link;
 mod memory;
 
-pub use connection::Connection;
+pub use connection::{Connection, Look};
 pub use link::{Link, LinkFault};
-pub use memory::{Cut, MemLink};
+pub use memory::{Answer, Cut, MemLink};

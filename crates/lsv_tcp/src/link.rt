@@ -2,14 +2,16 @@
 ghost use Rattle.std.specs.Prelude.{◌≡◌, [], None, length, IfOk};
 ghost use Rattle.lsv_port.specs.Port.{TakesWithin, GivesWithin};
 
+use lsv_base::Bytes;
 use lsv_link::{Link, LinkFault};
 use lsv_port::{Gave, Took};
 use std::io;
 use std::io::{ErrorKind, Read, Write};
-use std::net::{Net, Shutdown, TcpStream, ToSocketAddrs};
+use std::net::{Net, Shutdown, SocketAddr, TcpStream, ToSocketAddrs};
 use std::time::{Duration, Instant};
 
-/// The most seconds that a connect, a write or a read that may wait takes. The look-up of a name isn't counted.
+/// The most seconds that a connect takes, and that a connection has from when it was made or renewed. The look-up of a
+/// name isn't counted.
 const PATIENCE: u64 = 30;
 
 /// The most seconds that a close waits until the other end has read everything.
@@ -18,14 +20,25 @@ const LINGER: u64 = 2;
 /// After this many signals in a row a read or a write is a fault.
 const MOST_INTERRUPTS: u32 = 1024;
 
-/// An outgoing link over TCP.
+/// The open connection.
+#[derive(Drop)]
+struct Open {
+    stream: TcpStream,
+    /// When it was made, or renewed last.
+    since: Instant,
+}
+
+/// An outgoing link over TCP. It looks up a host once.
 #[derive(Drop)]
 pub struct TcpLink<N: Net<Stream = TcpStream> + Drop> {
     rt: HostRuntime,
     net: N,
     /// Whose faults they are, on standard error.
     program: &'static str,
-    stream: Option<TcpStream>,
+    /// The host that was looked up last, and its addresses.
+    host: Bytes,
+    addresses: Vec<SocketAddr>,
+    open: Option<Open>,
     /// How often a call failed, a write waited for nothing, and a read did.
     faults: u64,
     full: u64,
@@ -41,28 +54,57 @@ impl<N: Net<Stream = TcpStream> + Drop> TcpLink<N> {
             rt,
             net,
             program,
-            stream: None,
+            host: Bytes::new(rt.alloc()),
+            addresses: Vec::new(rt.alloc()),
+            open: None,
             faults: 0,
             full: 0,
             waits: 0,
         }
     }
 
+    /// Looks up a host, unless it is the one that was looked up last.
+    fn look_up(&mut self, host: &str) -> io::Result<()>
+        ensures faults { self.new.faults ≡ self.old.faults }
+        ensures full { self.new.full ≡ self.old.full }
+        ensures waits { self.new.waits ≡ self.old.waits }
+    {
+        if !self.addresses.is_empty() && self.host.as_slice() == host.as_bytes() {
+            return Ok(());
+        }
+        let alloc = self.rt.alloc();
+        let Ok(asked) = Bytes::of(alloc, host.as_bytes()) else {
+            return Err(ErrorKind::OutOfMemory.into());
+        };
+        let mut addresses = Vec::new(alloc);
+        for address in host.to_socket_addrs(&self.net)? {
+            if addresses.push(address).is_err() {
+                return Err(ErrorKind::OutOfMemory.into());
+            }
+        }
+        self.host = asked;
+        self.addresses = addresses;
+        Ok(())
+    }
+
     /// Connects to the first of the host's addresses that answers.
-    fn open(&self, host: &str) -> io::Result<TcpStream> {
-        let patience = Duration::from_secs(PATIENCE);
+    fn connect_to(&mut self, host: &str) -> io::Result<Open>
+        ensures faults { self.new.faults ≡ self.old.faults }
+        ensures full { self.new.full ≡ self.old.full }
+        ensures waits { self.new.waits ≡ self.old.waits }
+    {
+        self.look_up(host)?;
         let start = Instant::now(&self.rt)?;
         let mut last = ErrorKind::AddrNotAvailable.into();
-        for address in host.to_socket_addrs(&self.net)? {
-            let left = patience.saturating_sub(start.elapsed(&self.rt)?);
+        for address in &self.addresses {
+            let left = left_of(&self.rt, start)?;
             if left.is_zero() {
                 return Err(ErrorKind::TimedOut.into());
             }
-            match TcpStream::connect_timeout(&self.net, &address, left) {
+            match TcpStream::connect_timeout(&self.net, address, left) {
                 Ok(stream) => {
-                    stream.set_read_timeout(Some(patience))?;
-                    stream.set_write_timeout(Some(patience))?;
-                    return Ok(stream);
+                    let since = Instant::now(&self.rt)?;
+                    return Ok(Open { stream, since });
                 }
                 Err(e) => last = e,
             }
@@ -76,6 +118,7 @@ impl<N: Net<Stream = TcpStream> + Drop> TcpLink<N> {
         let linger = Duration::from_secs(LINGER);
         let start = Instant::now(&self.rt)?;
         stream.shutdown(Shutdown::Write)?;
+        stream.set_nonblocking(false)?;
         let mut dropped = [0u8; 4096];
         for _ in 0..u64::MAX {
             let left = linger.saturating_sub(start.elapsed(&self.rt)?);
@@ -91,13 +134,25 @@ impl<N: Net<Stream = TcpStream> + Drop> TcpLink<N> {
     }
 }
 
-/// One read, which waits only if it may.
-fn read_once(stream: &mut TcpStream, buf: &mut [u8], wait: bool) -> io::Result<Took>
+/// How much of the time is left that began then.
+fn left_of(rt: &HostRuntime, since: Instant) -> io::Result<Duration> {
+    Ok(Duration::from_secs(PATIENCE).saturating_sub(since.elapsed(rt)?))
+}
+
+/// One read, which waits only if it may, and until the connection's time is over.
+fn read_once(rt: &HostRuntime, open: &mut Open, buf: &mut [u8], wait: bool) -> io::Result<Took>
     ensures { IfOk result (λ took. TakesWithin took (length buf.old)) }
 {
-    stream.set_nonblocking(!wait)?;
+    open.stream.set_nonblocking(!wait)?;
     for _ in 0..MOST_INTERRUPTS {
-        match stream.read(buf) {
+        if wait {
+            let left = left_of(rt, open.since)?;
+            if left.is_zero() {
+                return Ok(Took::NotYet);
+            }
+            open.stream.set_read_timeout(Some(left))?;
+        }
+        match open.stream.read(buf) {
             Ok(0) => return Ok(Took::End),
             Ok(count) => return Ok(Took::Bytes(count)),
             Err(e) if e.kind() == ErrorKind::WouldBlock => return Ok(Took::NotYet),
@@ -108,13 +163,17 @@ fn read_once(stream: &mut TcpStream, buf: &mut [u8], wait: bool) -> io::Result<T
     Err(ErrorKind::Interrupted.into())
 }
 
-/// One write, which waits.
-fn write_once(stream: &mut TcpStream, bytes: &[u8]) -> io::Result<Gave>
+/// One write, which waits until the connection's time is over. After that it puts what is taken at once.
+fn write_once(rt: &HostRuntime, open: &mut Open, bytes: &[u8]) -> io::Result<Gave>
     ensures { IfOk result (λ gave. GivesWithin gave (length bytes.now)) }
 {
-    stream.set_nonblocking(false)?;
     for _ in 0..MOST_INTERRUPTS {
-        match stream.write(bytes) {
+        let left = left_of(rt, open.since)?;
+        open.stream.set_nonblocking(left.is_zero())?;
+        if !left.is_zero() {
+            open.stream.set_write_timeout(Some(left))?;
+        }
+        match open.stream.write(bytes) {
             Ok(0) => return Err(ErrorKind::WriteZero.into()),
             Ok(count) => return Ok(Gave::Bytes(count)),
             Err(e) if e.kind() == ErrorKind::WouldBlock => return Ok(Gave::NotYet),
@@ -129,17 +188,17 @@ fn write_once(stream: &mut TcpStream, bytes: &[u8]) -> io::Result<Gave>
 fn take(
     rt: &HostRuntime,
     program: &str,
-    stream: &mut Option<TcpStream>,
+    open: &mut Option<Open>,
     buf: &mut [u8],
     wait: bool,
 ) -> Took
     ensures { TakesWithin result (length buf.old) }
 {
-    let Some(stream) = stream else {
+    let Some(open) = open else {
         let _ = eprintln!(rt; "{program}: read of the link: there is no connection");
         return Took::Failed;
     };
-    match read_once(stream, buf, wait) {
+    match read_once(rt, open, buf, wait) {
         Ok(took) => took,
         Err(e) => {
             let _ = eprintln!(rt; "{program}: read of the link: {e}");
@@ -149,14 +208,14 @@ fn take(
 }
 
 /// One write to the open connection. A failure is reported on standard error.
-fn give(rt: &HostRuntime, program: &str, stream: &mut Option<TcpStream>, bytes: &[u8]) -> Gave
+fn give(rt: &HostRuntime, program: &str, open: &mut Option<Open>, bytes: &[u8]) -> Gave
     ensures { GivesWithin result (length bytes.now) }
 {
-    let Some(stream) = stream else {
+    let Some(open) = open else {
         let _ = eprintln!(rt; "{program}: write to the link: there is no connection");
         return Gave::Failed;
     };
-    match write_once(stream, bytes) {
+    match write_once(rt, open, bytes) {
         Ok(gave) => gave,
         Err(e) => {
             let _ = eprintln!(rt; "{program}: write to the link: {e}");
@@ -174,9 +233,9 @@ impl<N: Net<Stream = TcpStream> + Drop> Link for TcpLink<N> {
 
     fn connect(&mut self, host: &str) -> Result<(), LinkFault> {
         self.close();
-        match self.open(host) {
-            Ok(stream) => {
-                self.stream = Some(stream);
+        match self.connect_to(host) {
+            Ok(open) => {
+                self.open = Some(open);
                 Ok(())
             }
             Err(e) => {
@@ -189,7 +248,7 @@ impl<N: Net<Stream = TcpStream> + Drop> Link for TcpLink<N> {
     }
 
     fn read(&mut self, buf: &mut [u8], wait: bool) -> Took {
-        let took = take(&self.rt, self.program, &mut self.stream, buf, wait);
+        let took = take(&self.rt, self.program, &mut self.open, buf, wait);
         match took {
             Took::Failed => self.faults = self.faults.saturating_add(1),
             Took::NotYet => {
@@ -203,7 +262,7 @@ impl<N: Net<Stream = TcpStream> + Drop> Link for TcpLink<N> {
     }
 
     fn write(&mut self, bytes: &[u8]) -> Gave {
-        let gave = give(&self.rt, self.program, &mut self.stream, bytes);
+        let gave = give(&self.rt, self.program, &mut self.open, bytes);
         match gave {
             Gave::Failed => self.faults = self.faults.saturating_add(1),
             Gave::NotYet => self.full = self.full.saturating_add(1),
@@ -212,10 +271,20 @@ impl<N: Net<Stream = TcpStream> + Drop> Link for TcpLink<N> {
         gave
     }
 
+    /// If the clock can't be read, its time goes on.
+    fn renew(&mut self) {
+        if let Some(mut open) = self.open.take() {
+            if let Ok(now) = Instant::now(&self.rt) {
+                open.since = now;
+            }
+            self.open = Some(open);
+        }
+    }
+
     fn close(&mut self) {
-        if let Some(stream) = self.stream.take() {
+        if let Some(open) = self.open.take() {
             // The connection ends in any case: what was acknowledged was read before.
-            let _ = self.linger(stream);
+            let _ = self.linger(open.stream);
         }
     }
 }

@@ -1,4 +1,4 @@
-use Rattle.std.proofs.Common.{◌≡◌, ◌+◌, add-one, sym, ◌∙◌}
+use Rattle.std.proofs.Common.{◌+◌, add-one, sym, ◌∙◌}
 use Rattle.lsv_dialogue.proofs.BatchLemmas.{batch_ended_by, batch_next, none_of}
 use Rattle.lsv_dialogue.proofs.put.batch_of.Goals as goal
 

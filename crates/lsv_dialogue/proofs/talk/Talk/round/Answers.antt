@@ -1,91 +1,73 @@
-use Rattle.std.proofs.Common.{◌≡◌, ◌≢◌, ◌≤◌, [], Some, false, sym, ◌∙◌, ap, subst, arith, List, ℕ}
+use Rattle.std.proofs.Common.{List, ℕ, sym, ◌∙◌, ap, subst, refl, arith, inr}
 use Rattle.std.proofs.lemmas.Result.{IfErr-weaker, IfOk-weaker}
-use Rattle.lsv_dialogue.specs.Stands.{IsGoing, IsNext, floor, halt_of}
+use Rattle.lsv_wire.specs.Frame.{IsPartial, IsTooLong}
+use Rattle.lsv_dialogue.specs.Ends.{BeginsBad}
+use Rattle.lsv_dialogue.specs.Stands.{IsNext}
 use Rattle.lsv_dialogue.specs.declared.talk.Talk.{Talk}
-use Rattle.lsv_dialogue.proofs.EndLemmas.{end_chatter, end_large, end_malformed, end_over}
-use Rattle.lsv_dialogue.proofs.ReadLemmas.{at_exit, going_of, halted_not_quiet, same_talk, stands_same}
-use Rattle.lsv_dialogue.proofs.StandLemmas.{after_next_floor, broken, lowered}
+use Rattle.lsv_dialogue.proofs.EndLemmas.{broken, end_chatter, end_large, end_malformed, end_over}
+use Rattle.lsv_dialogue.proofs.ReadLemmas.{same_talk}
+use Rattle.lsv_dialogue.proofs.StandLemmas.{after_next, same_speaks}
 use Rattle.lsv_dialogue.proofs.talk.Talk.round.Goals as goal
 
-pub halted-requires-clause-wants : goal.halted-requires-clause-wants
-halted-requires-clause-wants g c =
-    let (start, begun, st) = c.requires.stands in
-    st.wants (halted_not_quiet c.args.self.now.spoken c.in-Halted.halt c.in-Halted.is)
-
-pub returns-in_err-halted-clause-broke : goal.returns-in_err-halted-clause-broke
-returns-in_err-halted-clause-broke g c = at_exit _ c.from_residual.result _ c.from_residual.ensures.1 (λ start begun st. c.in_err-halted.ensures.broke start begun (lowered _ _ _ _ _ begun [] _ 0 _ _ _ _ st (omega arith)))
-
-pub returns-in-Halted-clause-goes : goal.returns-in-Halted-clause-goes
-returns-in-Halted-clause-goes g c = λ start begun st. c.in_ok-halted.ensures.ended start begun (lowered _ _ _ _ _ begun [] _ 0 _ _ _ _ st (omega arith))
-
-pub returns-then-is_over : goal.returns-then-is_over
-returns-then-is_over g c = record {
-  goes = λ start begun st. end_over _ _ _ _ _ begun _ _ _ _ _ st (going_of c.args.self.now.spoken c.in_default.not-Halted) (sym c.is_over.ensures ∙ c.if-is_over.true);
-  broke = tt;
-}
+pub returns-in-Nothing-clause-goes : goal.returns-in-Nothing-clause-goes
+returns-in-Nothing-clause-goes g c = λ start begun sp. end_over (g.S.Speaker.manner start) g.L.Link.tells begun 0 c.args.self.now _ _ _ sp.stands (sym (c.wants.ensures start) ∙ c.in-Nothing.is)
 
 pub returns-then-self-ge-MOST_HEARD : goal.returns-then-self-ge-MOST_HEARD
 returns-then-self-ge-MOST_HEARD g c = record {
-  goes = λ start begun st. end_chatter _ _ _ _ _ begun _ _ _ _ st (going_of c.args.self.now.spoken c.in_default.not-Halted) (sym c.is_over.ensures ∙ c.if-is_over.false) c.if-self-ge-MOST_HEARD.true;
+  goes = λ start begun sp. end_chatter (g.S.Speaker.manner start) g.L.Link.tells begun c.args.self.now _ _ _ sp.stands (λ none. c.in_default.not-Nothing (c.wants.ensures start ∙ none)) c.if-self-ge-MOST_HEARD.true;
   broke = tt;
 }
 
+pub returns-in_default-next_message : goal.returns-in_default-next_message
+returns-in_default-next_message g c = record {
+  goes = tt;
+  broke = λ start begun sp. broken (g.S.Speaker.manner start) g.L.Link.tells begun 0 c.args.self.now _ _ _ sp.stands;
+}
+
 pub hear-requires : goal.hear-requires
-hear-requires g c =
-    let s = c.requires.stands in
-    let same = ap (λ (t : Talk). t.spoken) c.next_message.ensures.rest in
-    record {
-      stands = (s.0, s.1, after_next_floor _ _ _ _ _ s.1 c.in-Message.message _ _ _ _ _ s.2 (subst (λ n. IsNext n c.args.self.now.framer c.next_message.new.self.framer) c.in-Message.is c.in-Ok.ensures.next) c.next_message.ensures.rest c.if-self-ge-MOST_HEARD.false);
-      going = ap halt_of same ∙ going_of c.args.self.now.spoken c.in_default.not-Halted;
-      wants = sym c.is_over.ensures ∙ c.if-is_over.false;
-    }
+hear-requires g c = record {
+  speaks = let (start, begun, sp) = c.requires.speaks in (start, begun, (record { stands = after_next (g.S.Speaker.manner start) g.L.Link.tells begun 0 c.in-Message.message c.args.self.now c.next_message.new.self _ _ _ sp.stands (subst (λ n. IsNext n c.args.self.now.framer c.next_message.new.self.framer) c.in-Message.is c.in-Ok.ensures.next) c.next_message.ensures.rest c.if-self-ge-MOST_HEARD.false; opened = sp.opened }));
+  wants = λ start. (λ none. c.in_default.not-Nothing (c.wants.ensures start ∙ none));
+  more = (let e = ap (λ (t : Talk). t.heard) c.next_message.ensures.rest in let few = c.if-self-ge-MOST_HEARD.false in omega (arith, e, few));
+}
 
 pub returns-in-Message : goal.returns-in-Message
 returns-in-Message g c = record {
-  goes = IfOk-weaker c.hear.result _ _
-      (λ end h start begun st. h start begun (after_next_floor _ _ _ _ _ begun c.in-Message.message _ _ _ _ _ st (subst (λ n. IsNext n c.args.self.now.framer c.next_message.new.self.framer) c.in-Message.is c.in-Ok.ensures.next) c.next_message.ensures.rest c.if-self-ge-MOST_HEARD.false))
-      c.hear.ensures.goes;
-  broke = IfErr-weaker c.hear.result _ _
-      (λ fault h start begun st. h start begun (after_next_floor _ _ _ _ _ begun c.in-Message.message _ _ _ _ _ st (subst (λ n. IsNext n c.args.self.now.framer c.next_message.new.self.framer) c.in-Message.is c.in-Ok.ensures.next) c.next_message.ensures.rest c.if-self-ge-MOST_HEARD.false))
-      c.hear.ensures.broke;
+  goes = IfOk-weaker c.hear.result _ _ (λ end h start begun sp. h start begun (record { stands = after_next (g.S.Speaker.manner start) g.L.Link.tells begun 0 c.in-Message.message c.args.self.now c.next_message.new.self _ _ _ sp.stands (subst (λ n. IsNext n c.args.self.now.framer c.next_message.new.self.framer) c.in-Message.is c.in-Ok.ensures.next) c.next_message.ensures.rest c.if-self-ge-MOST_HEARD.false; opened = sp.opened })) c.hear.ensures.goes;
+  broke = IfErr-weaker c.hear.result _ _ (λ fault h start begun sp. h start begun (record { stands = after_next (g.S.Speaker.manner start) g.L.Link.tells begun 0 c.in-Message.message c.args.self.now c.next_message.new.self _ _ _ sp.stands (subst (λ n. IsNext n c.args.self.now.framer c.next_message.new.self.framer) c.in-Message.is c.in-Ok.ensures.next) c.next_message.ensures.rest c.if-self-ge-MOST_HEARD.false; opened = sp.opened })) c.hear.ensures.broke;
 }
 
 pub returns-in-Malformed : goal.returns-in-Malformed
 returns-in-Malformed g c = record {
-  goes = λ start begun st.
+  goes = λ start begun sp.
       let next = (subst (λ n. IsNext n c.args.self.now.framer c.next_message.new.self.framer) c.in-Malformed.is c.in-Ok.ensures.next) in
-      end_malformed _ _ _ _ _ begun _ _ _ _ c.in-Malformed.fault st (going_of c.args.self.now.spoken c.in_default.not-Halted) (sym c.is_over.ensures ∙ c.if-is_over.false) next.0 c.if-self-ge-MOST_HEARD.false;
+      end_malformed (g.S.Speaker.manner start) g.L.Link.tells begun c.in-Malformed.fault c.next_message.new.self _ _ _ (same_speaks (g.S.Speaker.manner start) g.L.Link.tells begun 0 c.args.self.now c.next_message.new.self _ _ _ (same_talk c.args.self.now c.next_message.new.self c.next_message.ensures.rest next.1) sp).stands (λ none. c.in_default.not-Nothing (c.wants.ensures start ∙ none)) (subst (λ (r : List ℕ). BeginsBad c.in-Malformed.fault r) (sym next.1) next.0) (let e = ap (λ (t : Talk). t.heard) c.next_message.ensures.rest in let few = c.if-self-ge-MOST_HEARD.false in omega (arith, e, few));
   broke = tt;
 }
 
 pub returns-in-TooLarge : goal.returns-in-TooLarge
 returns-in-TooLarge g c = record {
-  goes = λ start begun st.
+  goes = λ start begun sp.
       let next = (subst (λ n. IsNext n c.args.self.now.framer c.next_message.new.self.framer) c.in-TooLarge.is c.in-Ok.ensures.next) in
-      end_large _ _ _ _ _ begun _ _ _ _ c.in-TooLarge.stated st (going_of c.args.self.now.spoken c.in_default.not-Halted) (sym c.is_over.ensures ∙ c.if-is_over.false) next.0 c.if-self-ge-MOST_HEARD.false;
+      end_large (g.S.Speaker.manner start) g.L.Link.tells begun c.in-TooLarge.stated c.next_message.new.self _ _ _ (same_speaks (g.S.Speaker.manner start) g.L.Link.tells begun 0 c.args.self.now c.next_message.new.self _ _ _ (same_talk c.args.self.now c.next_message.new.self c.next_message.ensures.rest next.1) sp).stands (λ none. c.in_default.not-Nothing (c.wants.ensures start ∙ none)) (subst (λ (r : List ℕ). IsTooLong r c.in-TooLarge.stated) (sym next.1) next.0) (let e = ap (λ (t : Talk). t.heard) c.next_message.ensures.rest in let few = c.if-self-ge-MOST_HEARD.false in omega (arith, e, few));
   broke = tt;
 }
 
-pub returns-in-Quiet : goal.returns-in-Quiet
-returns-in-Quiet g c =
-    let next = (subst (λ n. IsNext n c.args.self.now.framer c.next_message.new.self.framer) c.in-Nothing.is c.in-Ok.ensures.next) in
-    let same = same_talk c.args.self.now c.next_message.new.self c.next_message.ensures.rest next.1 in
+pub go_on-requires : goal.go_on-requires
+go_on-requires g c =
+    let next = (subst (λ n. IsNext n c.args.self.now.framer c.next_message.new.self.framer) c.in-Nothing-next.is c.in-Ok.ensures.next) in
     record {
-      goes = IfOk-weaker c.wait.result _ _ (λ end h start begun st. h start begun (stands_same _ _ _ _ _ begun [] _ _ _ _ _ same st)) c.wait.ensures.goes;
-      broke = IfErr-weaker c.wait.result _ _ (λ fault h start begun st. h start begun (stands_same _ _ _ _ _ begun [] _ _ _ _ _ same st)) c.wait.ensures.broke;
+      speaks = let (start, begun, sp) = c.requires.speaks in (start, begun, (same_speaks (g.S.Speaker.manner start) g.L.Link.tells begun 0 c.args.self.now c.next_message.new.self _ _ _ (same_talk c.args.self.now c.next_message.new.self c.next_message.ensures.rest next.1) sp));
+      wants = λ start. inr (refl, (λ none. c.in_default.not-Nothing (c.wants.ensures start ∙ none)));
+      partial = subst IsPartial (sym next.1) next.0;
+      few = omega arith;
+      more = (let e = ap (λ (t : Talk). t.heard) c.next_message.ensures.rest in let few = c.if-self-ge-MOST_HEARD.false in omega (arith, e, few));
     }
 
-pub returns-in-Owing : goal.returns-in-Owing
-returns-in-Owing g c =
-    let next = (subst (λ n. IsNext n c.args.self.now.framer c.next_message.new.self.framer) c.in-Nothing.is c.in-Ok.ensures.next) in
-    let same = same_talk c.args.self.now c.next_message.new.self c.next_message.ensures.rest next.1 in
+pub returns-in-Nothing-next : goal.returns-in-Nothing-next
+returns-in-Nothing-next g c =
+    let next = (subst (λ n. IsNext n c.args.self.now.framer c.next_message.new.self.framer) c.in-Nothing-next.is c.in-Ok.ensures.next) in
     record {
-      goes = IfOk-weaker c.look.result _ _ (λ end h start begun st. h start begun (stands_same _ _ _ _ _ begun [] _ _ _ _ _ same st)) c.look.ensures.goes;
-      broke = IfErr-weaker c.look.result _ _ (λ fault h start begun st. h start begun (stands_same _ _ _ _ _ begun [] _ _ _ _ _ same st)) c.look.ensures.broke;
+      goes = IfOk-weaker c.go_on.result _ _ (λ end h start begun sp. h start begun (same_speaks (g.S.Speaker.manner start) g.L.Link.tells begun 0 c.args.self.now c.next_message.new.self _ _ _ (same_talk c.args.self.now c.next_message.new.self c.next_message.ensures.rest next.1) sp)) c.go_on.ensures.goes;
+      broke = IfErr-weaker c.go_on.result _ _ (λ fault h start begun sp. h start begun (same_speaks (g.S.Speaker.manner start) g.L.Link.tells begun 0 c.args.self.now c.next_message.new.self _ _ _ (same_talk c.args.self.now c.next_message.new.self c.next_message.ensures.rest next.1) sp)) c.go_on.ensures.broke;
     }
-
-pub returns-in_default-next_message : goal.returns-in_default-next_message
-returns-in_default-next_message g c = record {
-  goes = tt;
-  broke = λ start begun st. broken _ _ _ _ _ _ begun _ _ _ _ _ st;
-}

@@ -1,12 +1,15 @@
-use Rattle.std.proofs.Common.{◌≡◌, ◌≤◌, [], false}
-use Rattle.lsv_dialogue.specs.Stands.{IsGoing, Stands, View}
+use Rattle.std.proofs.Common.{◌≡◌, ◌≢◌, ◌≤◌, ◌⊎◌, []}
+use Rattle.lsv_dialogue.specs.Stands.{Speaks, View}
+use Rattle.lsv_dialogue.specs.declared.ends.TheConstants.{MOST_PUT}
+use Rattle.lsv_dialogue.specs.declared.ends.Wants.TheVariants as wants
 use Rattle.lsv_dialogue.proofs.talk.Talk.say_on.Given as goal
 
 abbrev pub invariant-steps : goal.invariant-steps
 invariant-steps g l = record {
-  stands : (start : g.S.Speaker.Start) (begun : View) → Stands (g.S.Speaker.talks start) g.S.Speaker.judges g.S.Speaker.is_quiet g.S.Speaker.over g.L.Link.tells begun [] 0 l.fn.self l.fn.speaker l.fn.world (g.L.Link.counts l.fn.link, g.L.Link.state l.fn.link)
-      → Stands (g.S.Speaker.talks start) g.S.Speaker.judges g.S.Speaker.is_quiet g.S.Speaker.over g.L.Link.tells begun [] l.put l.self l.speaker l.world (g.L.Link.counts l.link, g.L.Link.state l.link);
-  going : IsGoing l.self.spoken;
-  wants : g.S.Speaker.over l.speaker ≡ false;
-  many : l.counter ≤ l.put;
+  speaks : (start : g.S.Speaker.Start) (begun : View) → Speaks (g.S.Speaker.manner start) g.L.Link.tells begun [] l.fn.put l.fn.self l.fn.speaker l.fn.world (g.L.Link.counts l.fn.link, g.L.Link.state l.fn.link)
+      → Speaks (g.S.Speaker.manner start) g.L.Link.tells begun [] l.all l.self l.speaker l.world (g.L.Link.counts l.link, g.L.Link.state l.link);
+  same : l.self ≡ l.fn.self;
+  wants : (start : g.S.Speaker.Start) → ((g.S.Speaker.manner start).wants l.speaker ≡ wants.More) ⊎ ((l.all ≡ 0) × ((g.S.Speaker.manner start).wants l.speaker ≢ wants.Nothing));
+  many : l.counter ≤ l.all;
+  few : l.all ≤ MOST_PUT;
 }

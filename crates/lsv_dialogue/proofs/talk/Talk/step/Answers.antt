@@ -1,47 +1,74 @@
-use Rattle.std.proofs.Common.{◌≡◌, ◌≢◌, ◌+◌, List, [], ℕ, length, refl, sym, ◌∙◌, ap, subst, None, nat_eq}
-use Rattle.std.specs.Option.{option_copied}
+use Rattle.std.proofs.Common.{◌≡◌, ◌≢◌, List, [], length, sym, ◌∙◌, ap, subst, arith, nat_eq}
 use Rattle.lsv_msg.specs.declared.messages.ClientMessage.{ClientMessage}
-use Rattle.lsv_dialogue.specs.Puts.{PutsWhole}
-use Rattle.lsv_dialogue.specs.Stands.{PutsMore, halt_of}
-use Rattle.lsv_dialogue.specs.declared.talk.Halt.{Halt}
-use Rattle.lsv_dialogue.proofs.BatchLemmas.{none_not_some, whole_none}
-use Rattle.lsv_dialogue.proofs.LinkLemmas.{put_by, put_none, stays_connected, writes_none}
-use Rattle.lsv_dialogue.proofs.StandLemmas.{after_step, empty_by, halted_by, quiet_is_not_halted, some_by, step_failed, unput_broken}
+use Rattle.lsv_dialogue.specs.Stands.{Sends}
+use Rattle.lsv_dialogue.proofs.EndLemmas.{step_failed, unput_broken}
+use Rattle.lsv_dialogue.proofs.LinkLemmas.{stays_connected}
+use Rattle.lsv_dialogue.proofs.ReadLemmas.{empty_by, some_by, some_length}
+use Rattle.lsv_dialogue.proofs.SayLemmas.{said_by, sends_none}
+use Rattle.lsv_dialogue.proofs.StandLemmas.{after_said}
 use Rattle.lsv_dialogue.proofs.talk.Talk.step.Goals as goal
 
-pub returns-in-Err-clause-broke : goal.returns-in-Err-clause-broke
-returns-in-Err-clause-broke g c = λ start begun least low st. step_failed _ _ _ _ _ _ begun _ least _ _ _ _ _ _ _ st low c.requires.going c.requires.wants c.requires.takes (c.in-Err.ensures.fails start st.events st.talks)
+pub step-requires-clause-begun : goal.step-requires-clause-begun
+step-requires-clause-begun g c =
+    let (start, begun, sp) = c.requires.speaks in
+    (start, sp.stands.holds.events, sp.stands.holds.talks, sp.opened)
 
-pub returns-then-is_empty-clause-stands : goal.returns-then-is_empty-clause-stands
-returns-then-is_empty-clause-stands g c = λ start begun least low st.
+pub returns-in-Err-clause-broke : goal.returns-in-Err-clause-broke
+returns-in-Err-clause-broke g c = λ start begun sp. step_failed (g.S.Speaker.manner start) g.L.Link.tells begun c.args.put c.args.self.now _ _ _ _ _ c.in-Err.fault sp.stands (c.in-Err.ensures.fails start sp.stands.holds.events sp.stands.holds.talks)
+
+pub returns-then-is_empty-clause-says : goal.returns-then-is_empty-clause-says
+returns-then-is_empty-clause-says g c = λ start begun sp.
     let is : c.as_slice-next.result.now ≡ c.in-Ok.messages = c.as_slice-next.ensures in
     let none : c.in-Ok.messages ≡ [] = empty_by c.in-Ok.messages (ap (λ (ms : List ClientMessage). nat_eq (length ms) 0) (sym is) ∙ (sym c.is_empty.ensures ∙ c.if-is_empty.true)) in
-    after_step _ _ _ _ _ begun (option_copied c.args.got) c.in-Ok.messages least 0 _ _ _ _ _ _ _ _ st low c.requires.going c.requires.wants c.requires.takes c.requires.good (c.in-Ok.ensures.talks start st.events st.talks)
-    (record {
-      bytes = [];
-      puts = subst (λ (ms : List ClientMessage). PutsWhole (Unit {0}) [] ms) (sym none) (whole_none [] refl);
-      less = λ h e. absurd (none_not_some h e);
-      wrote = λ t. writes_none _ (stays_connected _ _ (st.stays t));
-    }) (ap (λ (ms : List ClientMessage). length ms) (sym none)) (ap (λ (n : ℕ). c.args.self.now.heard + n) c.count.ensures) refl st.room (λ e. c.in-Ok.ensures.quiet none) (λ other. absurd (other refl)) (λ halt e. absurd (quiet_is_not_halted halt e)) (λ halt e. absurd (quiet_is_not_halted halt e)) (put_none _ _)
+    let few = c.in-Ok.ensures.few in
+    let room = c.requires.room in (
+      c.args.put,
+      record {
+        stands = after_said (g.S.Speaker.manner start) g.L.Link.tells begun c.in-Ok.messages c.args.put c.args.put c.args.self.now _ _ _ _ (g.L.Link.counts c.args.link.now, g.L.Link.state c.args.link.now) (g.L.Link.counts c.args.link.now, g.L.Link.state c.args.link.now) sp.stands
+            (c.in-Ok.ensures.talks start sp.stands.holds.events sp.stands.holds.talks) (omega (arith, few, room)) (sends_none c.args.put g.L.Link.tells c.in-Ok.messages (g.L.Link.counts c.args.link.now, g.L.Link.state c.args.link.now) none (λ t. stays_connected _ _ (sp.stands.holds.stays t))) c.requires.partial;
+        opened = c.in-Ok.ensures.opens start;
+      },
+      c.in-Ok.ensures.quiet none start,
+    )
 
-pub returns-then-is_empty-clause-wants : goal.returns-then-is_empty-clause-wants
-returns-then-is_empty-clause-wants g c = λ other. absurd (other refl)
+pub put-requires-clause-connected : goal.put-requires-clause-connected
+put-requires-clause-connected g c = λ t. stays_connected _ _ (c.requires.speaks.2.stands.holds.stays t)
 
-pub returns-clause-stands : goal.returns-clause-stands
-returns-clause-stands g c = λ start begun least low st.
-    let is : c.as_slice-next.result.now ≡ c.in-Ok.messages = c.as_slice-next.ensures in
-    let some : c.in-Ok.messages ≢ [] = some_by c.in-Ok.messages (ap (λ (ms : List ClientMessage). nat_eq (length ms) 0) (sym is) ∙ (sym c.is_empty.ensures ∙ c.if-is_empty.false)) in
-    let halt : halt_of c.spoken_by-self.result ≡ c.in-Ok-put_all.halt = c.spoken_by-self.ensures.halt in
-    after_step _ _ _ _ _ begun (option_copied c.args.got) c.in-Ok.messages least (length c.as_slice-next.result.now) _ _ _ _ _ _ _ _ st low c.requires.going c.requires.wants c.requires.takes c.requires.good (c.in-Ok.ensures.talks start st.events st.talks)
-    (subst (λ h. PutsMore h g.L.Link.tells c.in-Ok.messages (g.L.Link.state c.args.link.now) (g.L.Link.state c.put_all.new.link)) (sym halt)
-    (subst (λ (ms : List ClientMessage). PutsMore c.in-Ok-put_all.halt g.L.Link.tells ms (g.L.Link.state c.args.link.now) (g.L.Link.state c.put_all.new.link)) is c.in-Ok-put_all.ensures.puts))
-    (ap (λ (ms : List ClientMessage). length ms) is) (ap (λ (n : ℕ). c.args.self.now.heard + n) c.count.ensures) refl st.room (λ e. absurd (c.spoken_by-self.ensures.not_quiet e)) (λ other. c.in-Ok.ensures.busy some c.requires.wants) (λ h e. some)
-    (halted_by c.spoken_by-self.result c.in-Ok-put_all.halt (g.L.Link.counts c.args.link.now) (g.L.Link.counts c.put_all.new.link) halt c.in-Ok-put_all.ensures.cause) (put_by _ _ _ _ (λ other e. other (halt ∙ e)) c.in-Ok-put_all.ensures.counts)
-
-pub returns-clause-wants : goal.returns-clause-wants
-returns-clause-wants g c = λ other.
-    let is : c.as_slice-next.result.now ≡ c.in-Ok.messages = c.as_slice-next.ensures in
-    c.in-Ok.ensures.busy (some_by c.in-Ok.messages (ap (λ (ms : List ClientMessage). nat_eq (length ms) 0) (sym is) ∙ (sym c.is_empty.ensures ∙ c.if-is_empty.false))) c.requires.wants
+pub put-requires-clause-few : goal.put-requires-clause-few
+put-requires-clause-few g c =
+    let few = c.in-Ok.ensures.few in
+    let room = c.requires.room in
+    let same = ap (λ (ms : List ClientMessage). length ms) c.as_slice-next.ensures in
+    omega (arith, few, room, same)
 
 pub returns-in_default-clause-broke : goal.returns-in_default-clause-broke
-returns-in_default-clause-broke g c = λ start begun least low st. unput_broken _ _ _ _ _ _ begun (option_copied c.args.got) c.in-Ok.messages least _ _ _ _ _ _ _ st low c.requires.going c.requires.wants c.requires.takes (c.in-Ok.ensures.talks start st.events st.talks) c.in_default.ensures.same.0 c.in_default.ensures.same.1
+returns-in_default-clause-broke g c = λ start begun sp.
+    let few = c.in-Ok.ensures.few in
+    let room = c.requires.room in
+    unput_broken (g.S.Speaker.manner start) g.L.Link.tells begun c.in-Ok.messages c.args.put c.args.self.now _ _ _ _ (g.L.Link.counts c.args.link.now, g.L.Link.state c.args.link.now) (g.L.Link.counts c.put.new.link, g.L.Link.state c.put.new.link) sp.stands
+    (c.in-Ok.ensures.talks start sp.stands.holds.events sp.stands.holds.talks) (omega (arith, few, room)) c.in_default.ensures.same.0 c.in_default.ensures.same.1
+
+pub returns-clause-says : goal.returns-clause-says
+returns-clause-says g c = λ start begun sp.
+    let is : c.as_slice-next.result.now ≡ c.in-Ok.messages = c.as_slice-next.ensures in
+    let some : c.in-Ok.messages ≢ [] = some_by c.in-Ok.messages (ap (λ (ms : List ClientMessage). nat_eq (length ms) 0) (sym is) ∙ (sym c.is_empty.ensures ∙ c.if-is_empty.false)) in
+    let few = c.in-Ok.ensures.few in
+    let room = c.requires.room in
+    said_by (g.S.Speaker.manner start) g.L.Link.tells begun c.in-Ok.messages c.args.put c.in-Ok-put.spoken c.args.self.now _ _ _ _ (g.L.Link.counts c.args.link.now, g.L.Link.state c.args.link.now) (g.L.Link.counts c.put.new.link, g.L.Link.state c.put.new.link) sp.stands
+    (c.in-Ok.ensures.talks start sp.stands.holds.events sp.stands.holds.talks) (omega (arith, few, room))
+    (subst (λ (ms : List ClientMessage). Sends c.args.put c.in-Ok-put.spoken g.L.Link.tells ms (g.L.Link.counts c.args.link.now, g.L.Link.state c.args.link.now) (g.L.Link.counts c.put.new.link, g.L.Link.state c.put.new.link)) is c.in-Ok-put.ensures.sends) c.requires.partial (c.in-Ok.ensures.busy some start) (c.in-Ok.ensures.opens start)
+
+pub returns-clause-more : goal.returns-clause-more
+returns-clause-more g c = λ n e.
+    let is : c.as_slice-next.result.now ≡ c.in-Ok.messages = c.as_slice-next.ensures in
+    let one = some_length c.in-Ok.messages (some_by c.in-Ok.messages (ap (λ (ms : List ClientMessage). nat_eq (length ms) 0) (sym is) ∙ (sym c.is_empty.ensures ∙ c.if-is_empty.false))) in
+    let count = c.in-Ok-put.ensures.sends.count n e in
+    let same = ap (λ (ms : List ClientMessage). length ms) is in
+    let few = c.in-Ok.ensures.few in
+    let room = c.requires.room in
+    (omega (arith, one, count, same), omega (arith, count, same, few, room))
+
+pub returns-clause-wants : goal.returns-clause-wants
+returns-clause-wants g c = λ loud start.
+    let is : c.as_slice-next.result.now ≡ c.in-Ok.messages = c.as_slice-next.ensures in
+    c.in-Ok.ensures.busy (some_by c.in-Ok.messages (ap (λ (ms : List ClientMessage). nat_eq (length ms) 0) (sym is) ∙ (sym c.is_empty.ensures ∙ c.if-is_empty.false))) start
