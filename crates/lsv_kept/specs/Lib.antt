@@ -1,3 +1,4 @@
+pub mod Aim
 pub mod Faults
 pub mod Inner
 pub mod Kept

@@ -7,13 +7,15 @@ use Rattle.lsv_bundle.specs.Committed.{committed}
 use Rattle.lsv_bundle.specs.Represents.{Represents}
 use Rattle.lsv_bundle.specs.Shape.{journal_of}
 use Rattle.lsv_bundle.specs.Value.{BundleView}
+use Rattle.lsv_kept.specs.Aim.{AimView}
 use Rattle.lsv_kept.specs.Kept.{IsOfRelay, owner_of, state_in}
 use Rattle.lsv_kept.specs.declared.state.State.{State}
 use Rattle.lsv_kept.specs.declared.state.State.TheVariants as states
 
--- the number of the log, what is kept of its relaying, and the files of it
+-- the number of the log, the aim of its relaying, what is kept of that, and the files of it
 pub record KeepingView : Type 0 where
   pub number : ℕ
+  pub aim : AimView
   pub state : State
   -- none before something was kept, or if the log was marked when it was opened
   pub files : Option BundleView
@@ -39,8 +41,8 @@ with_point point (states.Kept kept) = states.Kept (record { id = kept.id; point 
 with_point point states.Done = states.Done
 
 -- what a bundle on a disk keeps
-abbrev pub state_on : BundleView → DiskView → State
-state_on bundle disk = state_in (committed bundle disk)
+abbrev pub state_on : AimView → BundleView → DiskView → State
+state_on aim bundle disk = state_in aim (committed bundle disk)
 
 -- no crash leaves an entry, and the files may be made
 pub record IsUnmade (n : ℕ) (disk : DiskView) : Type 0 where
@@ -48,10 +50,10 @@ pub record IsUnmade (n : ℕ) (disk : DiskView) : Type 0 where
   pub may_be_made : MayBeMade 89 (journal_of (owner_of n)) disk
 
 -- the files on the disk are those of this state; of a log that was marked nothing is said
-abbrev pub StandsBy : ℕ → State → Option BundleView → DiskView → Type 0
-StandsBy n state None disk = (state ≡ states.Done) ⊎ ((state ≡ states.Nothing) × IsUnmade n disk)
-StandsBy n state (Some bundle) disk = Represents bundle disk × (state_on bundle disk ≡ state)
+abbrev pub StandsBy : ℕ → AimView → State → Option BundleView → DiskView → Type 0
+StandsBy n aim state None disk = (state ≡ states.Done) ⊎ ((state ≡ states.Nothing) × IsUnmade n disk)
+StandsBy n aim state (Some bundle) disk = Represents bundle disk × (state_on aim bundle disk ≡ state)
 
 -- what is kept stands on the disk
 abbrev pub Stands : KeepingView → DiskView → Type 0
-Stands keeping disk = StandsBy keeping.number keeping.state keeping.files disk
+Stands keeping disk = StandsBy keeping.number keeping.aim keeping.state keeping.files disk

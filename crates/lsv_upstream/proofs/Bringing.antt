@@ -118,12 +118,12 @@ plain_stays : (set : Settings) (m : Machine) (act : Act) (message : ClientMessag
 plain_stays set m act message i n b e = rw (lives (m.states act.job.conn) n e, b) (answered_stays set act.now act.job.conn (m.states act.job.conn) message (judged (m.states act.job.conn) message) i n m refl e)
 
 -- a job that breaks off leaves its connection dead
-broken_dead : (set : Settings) (m : Machine) (act : Act) (b : Body) (new : Machine) → Breaks set m act b new → new.states act.job.conn ≡ Dead
+pub broken_dead : (set : Settings) (m : Machine) (act : Act) (b : Body) (new : Machine) → Breaks set m act b new → new.states act.job.conn ≡ Dead
 broken_dead set m act (body.Msg message) new t = ap (λ (x : Machine). x.states act.job.conn) t.now ∙ its_state act.job.conn Dead (let_go (log_of (t.left.states act.job.conn)) t.left)
 broken_dead set m act (body.Bad fault) new t = ap (λ (x : Machine). x.states act.job.conn) t.now ∙ its_state act.job.conn Dead (let_go (log_of (t.left.states act.job.conn)) t.left)
 broken_dead set m act body.Gone new t = absurd t
 
-cut_dead : (set : Settings) (m : Machine) (act : Act) (new : Machine) → FailsCut set m act new → new.states act.job.conn ≡ Dead
+pub cut_dead : (set : Settings) (m : Machine) (act : Act) (new : Machine) → FailsCut set m act new → new.states act.job.conn ≡ Dead
 cut_dead set m act new t = let mid : Machine = with_log t.restart.log t.log m in ap (λ (x : Machine). x.states act.job.conn) t.now ∙ its_state act.job.conn Dead (let_go (log_of (mid.states act.job.conn)) mid)
 
 module _ (set : Settings) (m : Machine) (act : Act) (new : Machine) (step : Step set m act new) where
@@ -249,7 +249,7 @@ last_dead m k answers (by_refusal why e) dead = (subst (ShutsAreDead m) e dead).
 last_dead m k answers (by_shut e) dead = (subst (ShutsAreDead m) e dead).0 refl refl
 
 -- these jobs are messages, and then none is
-abbrev Ordered : List Body → Type 0
+abbrev pub Ordered : List Body → Type 0
 Ordered [] = Unit {0}
 Ordered (body.Msg message ∷ bodies) = Ordered bodies
 Ordered (body.Bad fault ∷ bodies) = NoMessages bodies
@@ -267,12 +267,12 @@ no_messages_ordered (body.Msg message ∷ bodies) none = absurd none
 no_messages_ordered (body.Bad fault ∷ bodies) none = none
 no_messages_ordered (body.Gone ∷ bodies) none = none
 
-ordered_of : (messages : List ClientMessage) (ends : List Body) → NoMessages ends → Ordered (map (λ x. body.Msg x) messages ++ ends)
+pub ordered_of : (messages : List ClientMessage) (ends : List Body) → NoMessages ends → Ordered (map (λ x. body.Msg x) messages ++ ends)
 ordered_of [] ends none = no_messages_ordered ends none
 ordered_of (x ∷ messages) ends none = ordered_of messages ends none
 
 -- so are those after the first of them
-ordered_rest : (a b : List Body) → Ordered (a ++ b) → Ordered b
+pub ordered_rest : (a b : List Body) → Ordered (a ++ b) → Ordered b
 ordered_rest [] b o = o
 ordered_rest (body.Msg message ∷ a) b o = ordered_rest a b o
 ordered_rest (body.Bad fault ∷ a) b o = no_messages_ordered b (none_rest a b o)
@@ -485,7 +485,7 @@ module _ (set : Settings) (n : ℕ) (k : ConnId) where
           subst (λ (x : List Record). Place n (end.states k) rest (sent_after n k (sent_by n asks act.answers w) h) x) (append_three rs (record_asked asks) (records_of bodies)) (again (sent_by n asks act.answers w) (rs ++ record_asked asks) o' next')
 
 -- the bodies of two stretches
-bodies_two : (k : ConnId) (g h : List Happened) → bodies_of k (jobs_of (g ++ h)) ≡ bodies_of k (jobs_of g) ++ bodies_of k (jobs_of h)
+pub bodies_two : (k : ConnId) (g h : List Happened) → bodies_of k (jobs_of (g ++ h)) ≡ bodies_of k (jobs_of g) ++ bodies_of k (jobs_of h)
 bodies_two k [] h = refl
 bodies_two k (Did act ∷ g) h = go (bodies_two k g h) (connections.same act.job.conn k)
   where
@@ -535,7 +535,7 @@ brought_all n before r k point messages on brings at = conclude place
 -- ---- Who wrote the log and gets a commit point writes it still
 
 -- a connection in this state, with these jobs still to come, has log n, or can have none any more
-data Keeps (n : ℕ) (s : ConnState) (coming : List Body) : Type 0 where
+pub data Keeps (n : ℕ) (s : ConnState) (coming : List Body) : Type 0 where
   has : log_of s ≡ Some n → Keeps n s coming
   lost : log_of s ≡ None → (s ≡ Dead) ⊎ NoMessages coming → Keeps n s coming
 
@@ -562,7 +562,7 @@ own_keeps set n m new act step coming ordered keeps = go act.job.body refl order
       | inl stays ↦ (has (ap log_of stays ∙ e), o)
     ]
 
-run_keeps : (set : Settings) (n : ℕ) (k : ConnId) (h : List Happened) (rest : List Body) (m end : Machine) → Run set m h end → Ordered (bodies_of k (jobs_of h) ++ rest) → Keeps n (m.states k) (bodies_of k (jobs_of h) ++ rest) → Keeps n (end.states k) rest
+pub run_keeps : (set : Settings) (n : ℕ) (k : ConnId) (h : List Happened) (rest : List Body) (m end : Machine) → Run set m h end → Ordered (bodies_of k (jobs_of h) ++ rest) → Keeps n (m.states k) (bodies_of k (jobs_of h) ++ rest) → Keeps n (end.states k) rest
 run_keeps set n k [] rest m end runs ordered keeps = subst (λ (x : Machine). Keeps n (x.states k) rest) (sym runs) keeps
 run_keeps set n k (Tailed tail ∷ h) rest m end (mid, ended, more) ordered keeps = run_keeps set n k h rest mid end more ordered (keeps_moved n (m.states k) (mid.states k) (bodies_of k (jobs_of h) ++ rest) (tail_state set k m mid tail ended) keeps)
 run_keeps set n k (Begins texts ∷ h) rest m end runs ordered keeps = absurd runs
@@ -583,7 +583,7 @@ run_keeps set n k (Did act ∷ h) rest m end (mid, step, more) ordered keeps = g
         again o' (subst (λ j. Keeps n (mid.states j) (bodies ++ rest)) p next)
 
 -- the event tells it of its log
-point_log : (set : Settings) (n : ℕ) (k : ConnId) (c : ℕ) (l : Ledger) (m end : Machine) (x : Happened) (h : List Happened) → StandsFor set n m l → Run set m (x ∷ h) end → HasPoint k c (answers_at x) → log_of (m.states k) ≡ None → ⊥
+pub point_log : (set : Settings) (n : ℕ) (k : ConnId) (c : ℕ) (l : Ledger) (m end : Machine) (x : Happened) (h : List Happened) → StandsFor set n m l → Run set m (x ∷ h) end → HasPoint k c (answers_at x) → log_of (m.states k) ≡ None → ⊥
 point_log set n k c l m end (Begins texts) h stands runs told none = told
 point_log set n k c l m end (Tailed tail) h stands (mid, ended, rest) told none = tail_idle set n k c m mid l tail stands ended told none
 point_log set n k c l m end (Did act) h stands (mid, step, rest) told none =

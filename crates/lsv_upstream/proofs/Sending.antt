@@ -37,7 +37,7 @@ use Rattle.lsv_machine.proofs.Shown.{ByDelays}
 use Rattle.lsv_machine.proofs.StepLooks.{step_seen}
 use Rattle.lsv_upstream.specs.Held.{GetsPoint, HoldsThrough, HasPoint, answers_at, up_to}
 use Rattle.lsv_upstream.specs.Jobs.{BringsFirst, IsStorable, jobs_of}
-use Rattle.lsv_upstream.specs.Playing.{BringsAsked, HasBegun, IsNext, OwnExpected, OwnRun, StillAsks, StillAsks.Over, all_asks_after, asks_after}
+use Rattle.lsv_upstream.specs.Playing.{BringsAsked, HasBegun, IsNext, OwnExpected, OwnRun, StillAsks, all_asks_after, asks_after}
 use Rattle.lsv_upstream.specs.Runs.{RunsOn, ServerRun, history_at}
 use Rattle.lsv_upstream.specs.Sent.{BeginsAlike}
 use Rattle.lsv_upstream.proofs.Answering.{told_by}

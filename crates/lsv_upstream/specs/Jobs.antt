@@ -1,6 +1,7 @@
 -- What one client's connection brings to a server and reads from it.
-use Rattle.std.specs.Prelude.{◌≡◌, ◌<◌, ◌^◌, ℕ, List, [], ◌∷◌, ◌++◌, map, Option, Some, None, All, IsSome}
+use Rattle.std.specs.Prelude.{◌≡◌, ◌<◌, ◌^◌, ℕ, List, [], ◌∷◌, ◌++◌, map, Option, Some, Ok, All, IsSome}
 use Rattle.lsv_base.specs.Time.{nanos_of}
+use Rattle.lsv_info.specs.Reading.{exit_of}
 use Rattle.lsv_info.specs.declared.times.Exit.{Exit}
 use Rattle.lsv_info.specs.declared.times.Head.{Head}
 use Rattle.lsv_msg.specs.declared.messages.ClientMessage.{ClientMessage}
@@ -25,6 +26,10 @@ pub record IsStorable (head : Head) (rs : List Record) (exit : Option Exit) : Ty
   pub in_time : elapsed rs < 2 ^ 63
   pub begun : IsSome (nanos_of head.submit)
   pub ended : (e : Exit) → exit ≡ Some e → IsSome (nanos_of e.run)
+
+-- the exit, if there is one, is what a text is read as
+abbrev pub IsReadExit : Option Exit → Type 0
+IsReadExit exit = (e : Exit) → exit ≡ Some e → (text : List ℕ) × (exit_of text ≡ Ok e)
 
 -- ---- What a connection brings and reads
 

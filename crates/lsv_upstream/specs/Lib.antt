@@ -3,6 +3,7 @@ pub mod Held
 pub mod Jobs
 pub mod Relayed
 pub mod Sent
+pub mod Talked
 pub mod Passed
 pub mod Playing
 pub mod Examples

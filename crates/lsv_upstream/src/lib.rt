@@ -11,8 +11,10 @@ pub use examples::{
     each_connection_has_sent_its_own,
 };
 pub use laws::{
-    a_connection_that_gets_a_point_still_writes, a_passed_on_log_is_held, a_relayed_log_is_held,
-    a_sent_log_is_held, what_is_promised_is_in_the_images, what_was_read_was_answered,
-    what_was_sent_is_brought,
+    a_connection_that_gets_a_point_still_writes, a_conversation_is_a_visit,
+    a_log_that_was_sent_is_held, a_marked_log_is_held, a_passed_on_log_is_held,
+    a_relayed_log_is_held, a_sent_log_is_held, what_is_promised_is_in_the_images,
+    what_is_replayed_is_storable, what_was_answered_is_read, what_was_read_was_answered,
+    what_was_sent_is_brought, who_begins_a_log_and_gets_a_point_writes_it,
 };
 pub use steps::a_played_log_is_held;

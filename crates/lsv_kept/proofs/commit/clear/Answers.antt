@@ -12,9 +12,9 @@ pub returns-clause-empty : goal.returns-clause-empty
 returns-clause-empty g c = on_ok_map c.cut.result _ (committed_length c.cut.new.self Id ≡ 0) (λ is. is.lengths_are Id (is_part c.args.bundle.now.shape c.requires.bundle.shape)) c.cut.ensures.value
 
 pub returns-clause-any_moment : goal.returns-clause-any_moment
-returns-clause-any_moment g c told =
+returns-clause-any_moment g c told aim =
     let b = c.args.bundle.now in
-    either_through c.args.number b (g.D.Disk.view c.args.disk.now) (g.D.Disk.view c.cut.new.disk) _ 2 0 states.Nothing c.requires.bundle.owner c.requires.bundle.shape refl refl refl
+    either_through c.args.number aim b (g.D.Disk.view c.args.disk.now) (g.D.Disk.view c.cut.new.disk) _ 2 0 states.Nothing c.requires.bundle.owner c.requires.bundle.shape refl refl refl
     (λ f. f ≡ journal_of b.owner) (journal_own c.args.number b c.requires.bundle.owner) (c.cut.ensures.any_moment told c.requires.bundle.whole)
 
 pub returns-clause-last : goal.returns-clause-last

@@ -1,4 +1,4 @@
-use Rattle.std.proofs.Common.{◌≡◌, ◌∙◌, ℕ, Some, ap, refl}
+use Rattle.std.proofs.Common.{◌≡◌, ◌∙◌, Some, ap, refl}
 use Rattle.lsv_bundle.specs.Committed.{committed, committed_next}
 use Rattle.lsv_bundle.specs.Shape.{IsWritable}
 use Rattle.lsv_disk.proofs.Composition.{on_ok_map}
@@ -9,21 +9,21 @@ use Rattle.lsv_kept.proofs.Keepings.{either_through, ends_in, state_next, writab
 use Rattle.lsv_kept.proofs.commit.commit.Goals as goal
 
 pub returns-clause-state : goal.returns-clause-state
-returns-clause-state g c told =
+returns-clause-state g c told aim =
     let b = c.args.bundle.now in
     let old = g.D.Disk.view c.args.disk.now in
     on_ok_map c.flush.result
-    (committed c.flush.new.self (g.D.Disk.view c.flush.new.disk) ≡ Some (committed_next b old c.args.kind 0 0 c.args.extra))
-    (state_on c.flush.new.self (g.D.Disk.view c.flush.new.disk) ≡ next_state b old c.args.kind c.args.extra)
-    (λ is. ap state_in is ∙ state_next b old c.args.kind c.args.extra c.requires.shape)
+    (committed c.flush.new.self (g.D.Disk.view c.flush.new.disk) ≡ Some (committed_next b old c.args.kind c.args.count 0 c.args.extra))
+    (state_on aim c.flush.new.self (g.D.Disk.view c.flush.new.disk) ≡ next_state aim b old c.args.kind c.args.count c.args.extra)
+    (λ is. ap (state_in aim) is ∙ state_next aim b old c.args.kind c.args.count c.args.extra c.requires.shape)
     (c.flush.ensures.committed told)
 
 pub returns-clause-any_moment : goal.returns-clause-any_moment
-returns-clause-any_moment g c told =
+returns-clause-any_moment g c told aim =
     let b = c.args.bundle.now in
     let old = g.D.Disk.view c.args.disk.now in
-    either_through c.args.number b old (g.D.Disk.view c.flush.new.disk) (committed_next b old c.args.kind 0 0 c.args.extra) c.args.kind c.args.extra (next_state b old c.args.kind c.args.extra) c.requires.owner c.requires.shape
-    (state_next b old c.args.kind c.args.extra c.requires.shape) refl refl (IsWritable b.owner b.shape) (writable_own c.args.number b c.requires.owner) (c.flush.ensures.any_moment told c.requires.whole)
+    either_through c.args.number aim b old (g.D.Disk.view c.flush.new.disk) (committed_next b old c.args.kind c.args.count 0 c.args.extra) c.args.kind c.args.extra (next_state aim b old c.args.kind c.args.count c.args.extra) c.requires.owner c.requires.shape
+    (state_next aim b old c.args.kind c.args.count c.args.extra c.requires.shape) refl refl (IsWritable b.owner b.shape) (writable_own c.args.number b c.requires.owner) (c.flush.ensures.any_moment told c.requires.whole)
 
 pub returns-clause-last : goal.returns-clause-last
 returns-clause-last g c = on_ok_map c.flush.result _ (EndsIn c.args.kind c.args.extra c.flush.new.self) (λ is. ends_in _ _ _ _ is.last refl refl) c.flush.ensures.value

@@ -1,4 +1,4 @@
-use Rattle.lsv_kept.proofs.Unique.{absent_keeps, keeps_alone, marked_keeps, one_state, undamaged}
+use Rattle.lsv_kept.proofs.Unique.{absent_keeps, keeps_alone, marked_keeps, of_another, one_state, undamaged}
 use Rattle.lsv_kept.proofs.laws.what_is_kept_is_one.Goals as goal
 
 pub returns-clause-once : goal.returns-clause-once
@@ -12,6 +12,9 @@ returns-clause-absent c = absent_keeps
 
 pub returns-clause-marked : goal.returns-clause-marked
 returns-clause-marked c = marked_keeps
+
+pub returns-clause-hosts : goal.returns-clause-hosts
+returns-clause-hosts c = of_another
 
 pub returns-clause-undamaged : goal.returns-clause-undamaged
 returns-clause-undamaged c = undamaged

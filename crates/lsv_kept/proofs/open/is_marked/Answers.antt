@@ -1,9 +1,4 @@
-use Rattle.lsv_bundle.specs.declared.fault.BundleFault.TheVariants.{Disk}
-use Rattle.lsv_bundle.specs.declared.shape.Shape.TheVariants as shapes
-use Rattle.lsv_disk.proofs.Composition.{cause_widened}
-use Rattle.lsv_bundle.proofs.Laws.{of_owner}
-use Rattle.lsv_kept.specs.Kept.{IsOfRelay, owner_of}
-use Rattle.lsv_kept.proofs.Reading.{handed_on, marked_by}
+use Rattle.lsv_kept.proofs.Reading.{marked_by}
 use Rattle.lsv_kept.proofs.open.is_marked.Goals as goal
 
 pub returns-clause-marked : goal.returns-clause-marked
