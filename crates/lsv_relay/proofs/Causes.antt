@@ -2,38 +2,38 @@
 use Rattle.std.proofs.Common.{◌≡◌, ◌⊎◌, inl, inr, ◌≤◌, ℕ, List, Result, Ok, Err, IfErr, IsErrAnd, IsErrOf, refl, sym, ◌∙◌, ap, subst, None}
 use Rattle.std.specs.Prelude.{Bool, true, false}
 use Rattle.lsv_bundle.specs.Calls as bundles
+use Rattle.lsv_bundle.specs.declared.body.Body.{Body}
 use Rattle.lsv_bundle.specs.declared.fault.BundleFault.{BundleFault}
 use Rattle.lsv_bundle.specs.declared.fault.BundleFault.TheVariants as kept
 use Rattle.lsv_disk.specs.Throughout.{OnlyReads}
-use Rattle.lsv_disk.specs.View.{DiskView, Elsewhere, HasOwnCause, Image}
+use Rattle.lsv_disk.specs.View.{DiskView, HasOwnCause, Image}
 use Rattle.lsv_disk.specs.declared.file.FileId.{FileId}
 use Rattle.lsv_disk.specs.declared.file.Part.{Part}
 use Rattle.lsv_disk.specs.declared.file.Part.TheVariants.{Exit as ExitPart}
-use Rattle.lsv_dialogue.specs.Events.{Event}
 use Rattle.lsv_info.specs.Reading.{exit_of}
 use Rattle.lsv_info.specs.declared.times.Exit.{Exit}
 use Rattle.lsv_iolog.specs.Damage.{IsViewDamage}
 use Rattle.lsv_iolog.specs.Faults as logs
-use Rattle.lsv_iolog.specs.Reading.{ViewState, committed_laid, committed_text}
+use Rattle.lsv_iolog.specs.Reading.{IsFaultBehind, IsWhole, ViewState, committed_laid, committed_text}
 use Rattle.lsv_iolog.specs.Recovered.{Replays}
 use Rattle.lsv_iolog.specs.declared.fault.ViewFault.{ViewFault}
 use Rattle.lsv_iolog.specs.declared.fault.ViewFault.TheVariants as reads
 use Rattle.lsv_kept.specs.Faults.{IsCommitFault}
 use Rattle.lsv_kept.specs.Kept.{IsOfRelay, IsStateDamage}
-use Rattle.lsv_kept.specs.declared.state.State.{State}
+use Rattle.lsv_record.specs.Layout.{IsLayout}
 use Rattle.lsv_record.specs.declared.laid.Laid.{Laid}
 use Rattle.lsv_record.specs.declared.records.Record.{Record}
 use Rattle.lsv_transcript.specs.Reading.{HasFaultAfter}
-use Rattle.lsv_relay.specs.Complete.{IsComplete, IsIncomplete, IsLogDamage, IsUnreadable}
-use Rattle.lsv_relay.specs.Faults.{IsLogCause, IsLogFault, IsOpenCause, IsOpenFault, IsReadCause, IsStateFault, IsStepFault, LeavesWhole, of_log, of_state}
-use Rattle.lsv_relay.specs.Talks.{HasLog, Talks, TalksAt}
-use Rattle.lsv_relay.specs.Value.{RelayView, is_broken}
+use Rattle.lsv_relay.specs.Complete.{IsComplete, IsIncomplete, IsLogDamage, IsRelayed, IsUnreadable}
+use Rattle.lsv_relay.specs.Faults.{IsCauseAt, IsKeepFault, IsLogCause, IsLogFault, IsOpenCause, IsOpenFault, IsReadCause, IsStateFault, IsStepFault, IsUndoneCause, LeavesWhole, of_log, of_state}
+use Rattle.lsv_relay.specs.Talks.{HasLog}
+use Rattle.lsv_relay.specs.Value.{IsStarted, IsUnbegun, RelayView, is_broken}
 use Rattle.lsv_relay.specs.declared.fault.RelayFault.{RelayFault}
 use Rattle.lsv_relay.specs.declared.fault.RelayFault.TheVariants as faults
-use Rattle.lsv_relay.specs.Inner.{IsSamePlace, IsSending}
+use Rattle.lsv_relay.specs.Inner.{IsSending}
 use Rattle.lsv_relay.specs.declared.relay.Place.{Place}
 use Rattle.lsv_relay.specs.declared.relay.Place.TheVariants as places
-use Rattle.lsv_relay.proofs.Logs.{SameLog, entry_stays, laid_stays, log_elsewhere, log_stays, text_stays}
+use Rattle.lsv_relay.proofs.Logs.{SameLog, entry_stays, laid_stays, text_stays, whole_stays}
 use Rattle.lsv_relay.proofs.Opening.{as_read, err_same}
 use Rattle.lsv_relay.proofs.Reading.{same_log}
 
@@ -136,6 +136,37 @@ state_open_cause n image (kept.Damaged part) word complete damaged = (complete, 
 state_open_cause n image (kept.Full part) word complete damaged = absurd word
 state_open_cause n image kept.NoMem word complete damaged = tt
 
+-- of a log that isn't marked
+pub log_undone_cause : (n : ℕ) (image : Image) (e : RelayFault) → IsLogFault e → (e ≡ faults.Incomplete → IsIncomplete n image) → (e ≡ faults.Log reads.Absent → Replays image n None)
+    → ((part : Part) → e ≡ faults.Log (reads.Damaged part) → IsViewDamage n part image) → IsUndoneCause n image e
+log_undone_cause n image faults.Incomplete word incomplete absent damaged = incomplete refl
+log_undone_cause n image (faults.Log reads.Absent) word incomplete absent damaged = absent refl
+log_undone_cause n image (faults.Log (reads.Damaged part)) word incomplete absent damaged = damaged part refl
+log_undone_cause n image (faults.Log reads.Disk) word incomplete absent damaged = tt
+log_undone_cause n image (faults.Log reads.NoMem) word incomplete absent damaged = absurd word
+log_undone_cause n image (faults.State fault) word incomplete absent damaged = absurd word
+log_undone_cause n image faults.NoMem word incomplete absent damaged = tt
+
+pub state_undone_cause : (n : ℕ) (image : Image) (e : BundleFault) → bundles.IsOpenFault e → IsComplete n image → ((part : Part) → e ≡ kept.Damaged part → IsStateDamage n part image) → IsUndoneCause n image (of_state e)
+state_undone_cause n image kept.Disk word complete damaged = complete
+state_undone_cause n image kept.Broken word complete damaged = absurd word
+state_undone_cause n image (kept.Damaged part) word complete damaged = (complete, damaged part refl)
+state_undone_cause n image (kept.Full part) word complete damaged = absurd word
+state_undone_cause n image kept.NoMem word complete damaged = tt
+
+pub undone_open_cause : (n : ℕ) (image : Image) (e : RelayFault) → IsComplete n image → (IsRelayed n image → ⊥) → IsUndoneCause n image e → IsOpenCause n image e
+undone_open_cause n image faults.Incomplete complete unmarked is = is
+undone_open_cause n image (faults.Log reads.Absent) complete unmarked is = is
+undone_open_cause n image (faults.Log (reads.Damaged part)) complete unmarked is = record { complete = complete; unmarked = unmarked; damage = is }
+undone_open_cause n image (faults.Log reads.Disk) complete unmarked is = is
+undone_open_cause n image (faults.Log reads.NoMem) complete unmarked is = is
+undone_open_cause n image (faults.State kept.Disk) complete unmarked is = is
+undone_open_cause n image (faults.State kept.Broken) complete unmarked is = is
+undone_open_cause n image (faults.State (kept.Damaged part)) complete unmarked is = is
+undone_open_cause n image (faults.State (kept.Full part)) complete unmarked is = is
+undone_open_cause n image (faults.State kept.NoMem) complete unmarked is = is
+undone_open_cause n image faults.NoMem complete unmarked is = is
+
 -- ---- why reading fails
 
 -- the log's files read the same
@@ -150,24 +181,27 @@ damage_back n part old new same is = record {
   ];
 }
 
-pub read_cause_back : (n : ℕ) (old new : DiskView) → SameLog n old new → (e : RelayFault) → IsReadCause n new e → IsReadCause n old e
-read_cause_back n old new same faults.Incomplete is = is
-read_cause_back n old new same (faults.Log reads.Absent) is = is
-read_cause_back n old new same (faults.Log (reads.Damaged part)) is = damage_back n part old new same is
-read_cause_back n old new same (faults.Log reads.Disk) is = is
-read_cause_back n old new same (faults.Log reads.NoMem) is = is
-read_cause_back n old new same (faults.State fault) is = is
-read_cause_back n old new same faults.NoMem is = is
+whole_back : (n : ℕ) (old new : DiskView) → SameLog n old new → (view : ViewState) (records : List Record) → view.number ≡ n → IsWhole view records new → IsWhole view records old
+whole_back n old new same view records number whole = whole_stays n new old (λ file own. sym (same file own)) view records number whole
 
--- a fault after the opening is one of reading
-pub read_log_cause : (n : ℕ) (disk : DiskView) (e : RelayFault) → IsReadCause n disk e → IsLogCause n disk e
-read_log_cause n disk faults.Incomplete is = absurd is
-read_log_cause n disk (faults.Log reads.Absent) is = absurd is
-read_log_cause n disk (faults.Log (reads.Damaged part)) is = inr is
-read_log_cause n disk (faults.Log reads.Disk) is = tt
-read_log_cause n disk (faults.Log reads.NoMem) is = tt
-read_log_cause n disk (faults.State fault) is = tt
-read_log_cause n disk faults.NoMem is = tt
+pub read_cause_back : (n : ℕ) (view : ViewState) (records : List Record) (old new : DiskView) → view.number ≡ n → SameLog n old new → (e : RelayFault) → IsReadCause n view records new e → IsReadCause n view records old e
+read_cause_back n view records old new number same faults.Incomplete is = is
+read_cause_back n view records old new number same (faults.Log reads.Absent) is = is
+read_cause_back n view records old new number same (faults.Log (reads.Damaged part)) (inl is) = inl (subst (λ (l : Laid). IsFaultBehind l view.body records part) (laid_stays n old new same view.body) is)
+read_cause_back n view records old new number same (faults.Log (reads.Damaged part)) (inr is) =
+    inr (is.0, whole_back n old new same view records number is.1, λ exit at. is.2 exit (ap exit_of (text_stays n old new same view.body ExitPart) ∙ at))
+read_cause_back n view records old new number same (faults.Log reads.Disk) is = is
+read_cause_back n view records old new number same (faults.Log reads.NoMem) is = is
+read_cause_back n view records old new number same (faults.State fault) is = is
+read_cause_back n view records old new number same faults.NoMem is = is
+
+-- of another value of the view, at the same log
+pub whole_of : (view next : ViewState) (records : List Record) (disk : DiskView) → next.number ≡ view.number → next.body ≡ view.body → IsWhole next records disk → IsWhole view records disk
+whole_of view next records disk number body whole = record {
+  layout = subst (λ (b : Body). IsLayout (committed_laid view.number b disk) records) body (subst (λ (k : ℕ). IsLayout (committed_laid k next.body disk) records) number whole.layout);
+  count = ap (λ (b : Body). b.count) (sym body) ∙ whole.count;
+  time = ap (λ (b : Body). b.elapsed) (sym body) ∙ whole.time;
+}
 
 -- it was only read since
 pub log_cause_back : (n : ℕ) (old new : DiskView) → OnlyReads old new → (e : RelayFault) → IsLogCause n new e → IsLogCause n old e
@@ -192,16 +226,30 @@ view_cause n disk (faults.State fault) incomplete absent damaged = tt
 view_cause n disk faults.NoMem incomplete absent damaged = tt
 
 -- by what reading the next record says
-pub next_cause : (n : ℕ) (disk : DiskView) (e : ViewFault) → logs.IsNextFault e → ((part : Part) → e ≡ reads.Damaged part → IsLogDamage n part disk) → IsReadCause n disk (of_log e)
-next_cause n disk reads.Absent word damaged = absurd word
-next_cause n disk (reads.Damaged part) word damaged = damaged part refl
-next_cause n disk reads.Disk word damaged = tt
-next_cause n disk reads.NoMem word damaged = tt
+pub next_cause : (n : ℕ) (view : ViewState) (records : List Record) (disk : DiskView) (e : ViewFault) → logs.IsNextFault e → ((part : Part) → e ≡ reads.Damaged part → IsFaultBehind (committed_laid n view.body disk) view.body records part) → IsReadCause n view records disk (of_log e)
+next_cause n view records disk reads.Absent word damaged = absurd word
+next_cause n view records disk (reads.Damaged part) word damaged = inl (damaged part refl)
+next_cause n view records disk reads.Disk word damaged = tt
+next_cause n view records disk reads.NoMem word damaged = tt
 
-pub exit_cause : (n : ℕ) (disk : DiskView) (e : ViewFault) → (e ≡ reads.Disk) ⊎ (e ≡ reads.Damaged ExitPart) ⊎ (e ≡ reads.NoMem) → (e ≡ reads.Damaged ExitPart → IsLogDamage n ExitPart disk) → IsReadCause n disk (of_log e)
-exit_cause n disk e (inl is) damaged = subst (λ (x : ViewFault). IsReadCause n disk (of_log x)) (sym is) tt
-exit_cause n disk e (inr (inl is)) damaged = subst (λ (x : ViewFault). IsReadCause n disk (of_log x)) (sym is) (damaged is)
-exit_cause n disk e (inr (inr is)) damaged = subst (λ (x : ViewFault). IsReadCause n disk (of_log x)) (sym is) tt
+pub exit_cause : (n : ℕ) (view : ViewState) (records : List Record) (disk : DiskView) (e : ViewFault) → (e ≡ reads.Disk) ⊎ (e ≡ reads.Damaged ExitPart) ⊎ (e ≡ reads.NoMem)
+    → (e ≡ reads.Damaged ExitPart → IsWhole view records disk × ((exit : Exit) → exit_of (committed_text n view.body disk ExitPart) ≡ Ok exit → ⊥)) → IsReadCause n view records disk (of_log e)
+exit_cause n view records disk e (inl is) damaged = subst (λ (x : ViewFault). IsReadCause n view records disk (of_log x)) (sym is) tt
+exit_cause n view records disk e (inr (inl is)) damaged = let d = damaged is in subst (λ (x : ViewFault). IsReadCause n view records disk (of_log x)) (sym is) (inr (refl, d.0, d.1))
+exit_cause n view records disk e (inr (inr is)) damaged = subst (λ (x : ViewFault). IsReadCause n view records disk (of_log x)) (sym is) tt
+
+-- the exit is none of the log, by another value of the view
+pub exit_none : (n : ℕ) (view next : ViewState) (disk : DiskView) → view.number ≡ n → next.number ≡ view.number → next.body ≡ view.body → ((exit : Exit) → exit_of (committed_text next.number next.body disk ExitPart) ≡ Ok exit → ⊥)
+    → (exit : Exit) → exit_of (committed_text n view.body disk ExitPart) ≡ Ok exit → ⊥
+exit_none n view next disk number same body none exit is =
+    none exit (ap (λ (k : ℕ). exit_of (committed_text k next.body disk ExitPart)) (same ∙ number) ∙ (ap (λ (b : Body). exit_of (committed_text n b disk ExitPart)) body ∙ is))
+
+-- by what passing records over says
+pub pass_cause : (n : ℕ) (disk : DiskView) (e : ViewFault) → logs.IsNextFault e → ((part : Part) → e ≡ reads.Damaged part → IsLogDamage n part disk) → IsLogCause n disk (of_log e)
+pass_cause n disk reads.Absent word damaged = absurd word
+pass_cause n disk (reads.Damaged part) word damaged = inr (damaged part refl)
+pass_cause n disk reads.Disk word damaged = tt
+pass_cause n disk reads.NoMem word damaged = tt
 
 -- a log is complete, and a part of it is at fault
 pub damage_of : (n : ℕ) (part : Part) (view : ViewState) (records : List Record) (disk : DiskView) → HasLog n view records disk
@@ -259,21 +307,31 @@ pub if_err_both : {T : Type 0} (r : Result T RelayFault) (P Q S : RelayFault →
 if_err_both (Ok x) P Q S step p q = tt
 if_err_both (Err e) P Q S step p q = step e p q
 
--- ---- why a later step fails
+-- ---- why a call fails
 
-next_why_at : (began : DiskView) (state : State) (r0 r1 : RelayView) (d0 d1 : DiskView) (events : List Event) (fault : RelayFault) (p : Place) → r0.at ≡ p → TalksAt began state r0 d0 events p → IsSamePlace r0 r1 → SameLog r0.number d0 d1 → IsSending p
-    → ((view : ViewState) (records : List Record) → r1.at ≡ places.Sends view → HasLog r1.number view records d1 → IsReadCause r1.number d1 fault) → IsLogCause r0.number d0 fault
-next_why_at began state r0 r1 d0 d1 events fault places.Idle at talks same log sends why = absurd talks
-next_why_at began state r0 r1 d0 d1 events fault places.Starts at talks same log sends why = absurd sends
-next_why_at began state r0 r1 d0 d1 events fault (places.Sends view) at talks same log sends why =
-    read_log_cause r0.number d0 fault (read_cause_back r0.number d0 d1 log fault (subst (λ (k : ℕ). IsReadCause k d1 fault) same.number
-    (why view talks.records (same.at ∙ at) (subst (λ (k : ℕ). HasLog k view talks.records d1) (sym same.number) (log_stays r0.number d0 d1 log view talks.records talks.log)))))
-next_why_at began state r0 r1 d0 d1 events fault places.Over at talks same log sends why = absurd sends
+-- where records are sent
+pub sends_cause : (n : ℕ) (p : Place) (disk : DiskView) (fault : RelayFault) → ((view : ViewState) (records : List Record) → p ≡ places.Sends view → HasLog n view records disk → IsReadCause n view records disk fault) → IsSending p → IsCauseAt n p disk fault
+sends_cause n places.Idle disk fault why sends = tt
+sends_cause n (places.Starts view) disk fault why sends = absurd sends
+sends_cause n (places.Sends view) disk fault why sends = λ records log. why view records refl log
+sends_cause n places.Over disk fault why sends = tt
 
-pub next_why : (began : DiskView) (state : State) (r0 r1 : RelayView) (d0 d1 : DiskView) (events : List Event) (fault : RelayFault) → Talks began state r0 d0 events → IsSamePlace r0 r1 → Elsewhere (IsOfRelay r0.number) d0 d1 → IsSending r1.at
-    → ((view : ViewState) (records : List Record) → r1.at ≡ places.Sends view → HasLog r1.number view records d1 → IsReadCause r1.number d1 fault) → IsLogCause r0.number d0 fault
-next_why began state r0 r1 d0 d1 events fault talks same elsewhere sends why =
-    next_why_at began state r0 r1 d0 d1 events fault r0.at refl talks.at same (log_elsewhere r0.number d0 d1 elsewhere) (subst IsSending same.at sends) why
+-- at the beginning
+pub begins_cause : (n : ℕ) (p : Place) (disk : DiskView) (fault : RelayFault) → IsUnbegun p → IsLogCause n disk fault → IsCauseAt n p disk fault
+begins_cause n places.Idle disk fault unbegun why = tt
+begins_cause n (places.Starts view) disk fault unbegun why = why
+begins_cause n (places.Sends view) disk fault unbegun why = absurd unbegun
+begins_cause n places.Over disk fault unbegun why = tt
+
+-- nothing of the log came to light where what is kept failed
+pub state_cause : (n : ℕ) (p : Place) (disk : DiskView) (fault : RelayFault) → IsStarted p → IsKeepFault fault → IsCauseAt n p disk fault
+state_cause n places.Idle disk fault started word = tt
+state_cause n (places.Starts view) disk fault started word = absurd started
+state_cause n (places.Sends view) disk faults.Incomplete started word = absurd word
+state_cause n (places.Sends view) disk (faults.Log fault) started word = absurd word
+state_cause n (places.Sends view) disk (faults.State fault) started word = λ records log. tt
+state_cause n (places.Sends view) disk faults.NoMem started word = λ records log. tt
+state_cause n places.Over disk fault started word = tt
 
 -- the lower call failed so
 pub that_err : {T : Type 0} (low : Result T ViewFault) (e f : ViewFault) → low ≡ Err e → e ≡ f → IsErrOf low f

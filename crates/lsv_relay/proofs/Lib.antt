@@ -1,7 +1,8 @@
+pub mod Beginning
 pub mod Causes
 pub mod Done
-pub mod Going
-pub mod Late
+pub mod Hearing
+pub mod Invariant
 pub mod Logs
 pub mod Moments
 pub mod Opening

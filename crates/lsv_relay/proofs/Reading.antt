@@ -1,5 +1,5 @@
 -- A log is read: to a point, and further.
-use Rattle.std.proofs.Common.{◌≡◌, ◌≢◌, ◌≤◌, ◌⊎◌, inl, inr, ◌++◌, ◌∷◌, ◌+◌, ◌-◌, ◌^◌, List, [], ℕ, length, map, refl, sym, ◌∙◌, ap, subst, Some, None, Ok, append-nil, arith}
+use Rattle.std.proofs.Common.{◌≡◌, ◌≢◌, ◌≤◌, ◌⊎◌, inl, inr, ◌++◌, ◌∷◌, ◌+◌, ◌-◌, ◌^◌, ◌<◌, List, [], ℕ, length, map, refl, sym, ◌∙◌, ap, subst, Some, None, Result, Ok, Err, IfOk, OnOk, append-nil, arith}
 use Rattle.std.specs.Prelude.{Bool, true, false, min}
 use Rattle.lsv_bundle.specs.Body.{encoded}
 use Rattle.lsv_bundle.specs.Committed.{HasEntry}
@@ -25,14 +25,18 @@ use Rattle.lsv_transcript.specs.Reading.{GivesNext, HasPassed, Passes}
 use Rattle.lsv_transcript.specs.declared.messages.Batch.{Batch}
 use Rattle.lsv_info.specs.declared.times.Head.{Head}
 use Rattle.lsv_kept.specs.Value.{KeepingView}
+use Rattle.lsv_kept.specs.declared.state.Kept.{Kept}
+use Rattle.lsv_kept.specs.declared.state.State.{State}
 use Rattle.lsv_kept.specs.declared.state.State.TheVariants as states
-use Rattle.lsv_relay.specs.Inner.{GivesExit, GivesRecords, HasStarted}
-use Rattle.lsv_relay.specs.Talks.{AreAllOf, HasLog, IsWay, Way, Way.Anew, Way.Resumes, opening_of}
-use Rattle.lsv_relay.specs.Value.{RelayView, state_of}
+use Rattle.lsv_relay.specs.Inner.{GivesExit, GivesRecords, HasStarted, IsLogOf}
+use Rattle.lsv_relay.specs.Talks.{AreAllOf, HasLog, IsOpened, IsWay, Way, Way.Anew, Way.Resumes, opening_of}
+use Rattle.lsv_relay.specs.Value.{RelayView, aim_of, state_of}
+use Rattle.lsv_relay.specs.declared.fault.RelayFault.{RelayFault}
 use Rattle.lsv_relay.specs.declared.relay.Meter.{Meter}
+use Rattle.lsv_relay.specs.declared.relay.Place.{Place}
 use Rattle.lsv_relay.specs.declared.relay.Place.TheVariants as places
 use Rattle.lsv_relay.proofs.Saying.{talk_by}
-use Rattle.lsv_relay.proofs.Logs.{SameLog, all_stay, behind_here, log_stays, same_back, whole_stays}
+use Rattle.lsv_relay.proofs.Logs.{SameLog, behind_here, log_stays, whole_stays}
 
 some_bytes : (a b : List ℕ) → Some a ≡ Some b → a ≡ b
 some_bytes a b e = cc
@@ -67,20 +71,20 @@ no_records : (more : List Record) → (let none : List ClientMessage = [] in non
 no_records [] e = refl
 no_records (r ∷ more) e = absurd (cc (e))
 
-some_allowed : (W : Type 0) → (◌≡◌ {A = ℕ} 16 0) ⊎ W → W
-some_allowed W (inl none) = absurd (omega (arith, none))
-some_allowed W (inr whole) = whole
+some_allowed : (most : ℕ) (W : Type 0) → 0 < most → (most ≡ 0) ⊎ W → W
+some_allowed most W some (inl none) = absurd (omega (arith, none, some))
+some_allowed most W some (inr whole) = whole
 
 -- without a message all records were read
-pub ends_whole : (view : ViewState) (disk : DiskView) (records : List Record) (batch : Batch) → GivesNext view disk records batch 16 → batch.messages ≡ [] → IsWhole view records disk × IsBehind view records disk
-ends_whole view disk records batch gives none = (
-  some_allowed (IsWhole view records disk) (gives.end none),
+pub ends_whole : (most : ℕ) (view : ViewState) (disk : DiskView) (records : List Record) (batch : Batch) → 0 < most → GivesNext view disk records batch most → batch.messages ≡ [] → IsWhole view records disk × IsBehind view records disk
+ends_whole most view disk records batch some gives none = (
+  some_allowed most (IsWhole view records disk) some (gives.end none),
   subst (λ (rs : List Record). IsBehind view rs disk) (ap (λ (more : List Record). records ++ more) (no_records gives.more (sym none ∙ gives.messages_are)) ∙ append-nil records) gives.behind,
 )
 
-pub gives_records : (old new : RelayView) (view next : ViewState) (batch : Batch) (d0 d1 : DiskView) → OnlyReads d0 d1 → Moves view next → ((records : List Record) → IsBehind view records d0 → GivesNext next d1 records batch 16)
+pub gives_records : (most : ℕ) (old new : RelayView) (view next : ViewState) (batch : Batch) (d0 d1 : DiskView) → OnlyReads d0 d1 → Moves view next → ((records : List Record) → IsBehind view records d0 → GivesNext next d1 records batch most)
     → new.at ≡ places.Sends next → new.meter ≡ record old.meter { sent = min (old.meter.sent + batch.elapsed) (2 ^ 64 - 1) } → (records : List Record) → HasLog old.number view records d0 → GivesRecords old new view next d1 batch.messages records
-gives_records old new view next batch d0 d1 reads moves gives at meter records log =
+gives_records most old new view next batch d0 d1 reads moves gives at meter records log =
     let g = gives records log.behind in
     record {
       at = at;
@@ -158,9 +162,9 @@ opening_some way head ms is none = let h : length ms ≡ 2 = ap length is ∙ tw
 
 -- it goes on with the log
 pub resumes_started : (old new : RelayView) (view : ViewState) (records : List Record) (id : List ℕ) (point : ℕ) (opening : List ClientMessage) (disk : DiskView) → state_of old ≡ states.Kept (record { id = id; point = Some point }) → HasLog old.number view records disk
-    → first records point ≡ Some (length records) → new.at ≡ places.Sends view → new.keeping ≡ old.keeping → new.meter ≡ record { waits = false; known = true; asked = true; sent = point; ended = false; total = view.body.elapsed }
+    → first records point ≡ Some (length records) → new.at ≡ places.Sends view → new.keeping ≡ old.keeping → new.meter ≡ record { waits = false; known = true; asked = true; sent = point; ended = false; whole = false } → view.body.elapsed ≡ (aim_of old).total
     → ((n : ℕ) (head : Head) → opening ≡ opening_of (Resumes id point n) head) → HasStarted old new opening disk
-resumes_started old new view records id point opening disk state log ends at keeping meter is = record {
+resumes_started old new view records id point opening disk state log ends at keeping meter time is = record {
   view = view;
   way = Resumes id point (length records);
   records = records;
@@ -169,24 +173,50 @@ resumes_started old new view records id point opening disk state log ends at kee
   passed = refl;
   at = at;
   opening_is = is (length records) view.head;
-  total = ap (λ (m : Meter). m.total) meter;
+  total = ap (λ (k : KeepingView). k.aim.total) keeping ∙ sym time;
   waits = ap (λ (m : Meter). m.waits) meter;
   talk_is = ap (λ (k : KeepingView). talk_by k new.meter) keeping ∙ ap (talk_by old.keeping) meter;
 }
 
 -- or sends it whole
-pub anew_started : (old new : RelayView) (view : ViewState) (opening : List ClientMessage) (before disk : DiskView) → OnlyReads before disk → IsWay (state_of old) old.number before [] Anew → HasLog old.number view [] disk
-    → new.at ≡ places.Sends view → new.keeping ≡ old.keeping → new.meter ≡ record { waits = true; known = false; asked = false; sent = 0; ended = false; total = view.body.elapsed } → opening ≡ opening_of Anew view.head → HasStarted old new opening disk
-anew_started old new view opening before disk reads way log at keeping meter is = record {
+pub anew_started : (old new : RelayView) (view : ViewState) (opening : List ClientMessage) (disk : DiskView) → IsWay (state_of old) old.number disk [] Anew → HasLog old.number view [] disk
+    → new.at ≡ places.Sends view → new.keeping ≡ old.keeping → new.meter ≡ record { waits = true; known = false; asked = false; sent = 0; ended = false; whole = false } → view.body.elapsed ≡ (aim_of old).total → opening ≡ opening_of Anew view.head → HasStarted old new opening disk
+anew_started old new view opening disk way log at keeping meter time is = record {
   view = view;
   way = Anew;
   records = [];
   log = log;
-  is_way = λ id point state rs all. way id point state rs (all_stay old.number disk before (same_back old.number before disk (same_log old.number before disk reads)) rs all);
+  is_way = way;
   passed = refl;
   at = at;
   opening_is = is;
-  total = ap (λ (m : Meter). m.total) meter;
+  total = ap (λ (k : KeepingView). k.aim.total) keeping ∙ sym time;
   waits = ap (λ (m : Meter). m.waits) meter;
   talk_is = ap (λ (k : KeepingView). talk_by k new.meter) keeping ∙ ap (talk_by old.keeping) meter;
 }
+
+-- nothing ends there
+pub no_point_way : (state : State) (kept : Kept) (n : ℕ) (disk : DiskView) → state ≡ states.Kept kept → ((p : ℕ) → kept.point ≡ Some p → ⊥) → IsWay state n disk [] Anew
+no_point_way state kept n disk is none id point same rs all =
+    absurd (none point (let h : states.Kept kept ≡ states.Kept (record { id = id; point = Some point }) = sym is ∙ same in let k : kept ≡ record { id = id; point = Some point } = cc (h) in ap (λ (x : Kept). x.point) k))
+
+pub none_way : (state : State) (id : List ℕ) (p n : ℕ) (disk : DiskView) → state ≡ states.Kept (record { id = id; point = Some p }) → ((rs : List Record) → AreAllOf n disk rs → first rs p ≡ None) → IsWay state n disk [] Anew
+none_way state id p n disk is none other point same rs all =
+    let h : states.Kept (record { id = id; point = Some p }) ≡ states.Kept (record { id = other; point = Some point }) = sym is ∙ same in
+    let k : (let x : Kept = record { id = id; point = Some p } in x) ≡ record { id = other; point = Some point } = cc (h) in
+    let q : Some p ≡ Some point = ap (λ (x : Kept). x.point) k in
+    let e : p ≡ point = cc (q) in
+    subst (λ (x : ℕ). first rs x ≡ None) e (none rs all)
+
+-- a log is begun anew
+pub anew_ok : (r : Result (List ClientMessage) RelayFault) (old new : RelayView) (view : ViewState) (disk : DiskView) → OnOk r (new.at ≡ places.Sends view) → OnOk r (new.meter ≡ record { waits = true; known = false; asked = false; sent = 0; ended = false; whole = false })
+    → IfOk r (λ opening. opening ≡ opening_of Anew view.head) → new.keeping ≡ old.keeping → IsWay (state_of old) old.number disk [] Anew → HasLog old.number view [] disk → view.body.elapsed ≡ (aim_of old).total → IfOk r (λ opening. HasStarted old new opening disk)
+anew_ok (Err e) old new view disk at meter is keeping way log time = tt
+anew_ok (Ok opening) old new view disk at meter is keeping way log time = anew_started old new view opening disk way log at keeping meter time is
+
+-- the log that was opened
+pub begun_log : (n total : ℕ) (ended : Bool) (p : Place) (view : ViewState) (disk : DiskView) → p ≡ places.Starts view → IsOpened n p disk → HasLog n view [] disk
+begun_log n total ended p view disk is opened = subst (λ (q : Place). IsOpened n q disk) is opened
+
+pub begun_time : (n total : ℕ) (ended : Bool) (p : Place) (view : ViewState) → p ≡ places.Starts view → IsLogOf n total ended p → view.body.elapsed ≡ total
+begun_time n total ended p view is log = (subst (λ (q : Place). IsLogOf n total ended q) is log).1

@@ -1,10 +1,10 @@
 -- What is said and heard, one after another.
-use Rattle.std.proofs.Common.{◌≡◌, ◌++◌, ◌∷◌, ◌+◌, List, [], ℕ, length, map, refl, sym, ◌∙◌, ap, Option, Some, None, append-nil, arith}
+use Rattle.std.proofs.Common.{◌≡◌, ◌++◌, ◌∷◌, ◌+◌, List, [], ℕ, length, map, refl, sym, ◌∙◌, ap, Option, Some, None, arith}
 use Rattle.std.specs.Prelude.{Bool, true, false, not, nat_lt, if◌then◌else◌, ◌&&◌, ◌||◌, Result, Ok, Err}
 use Rattle.std.specs.List.{All, list_any}
 use Rattle.std.proofs.lemmas.List.Elements.{All-head, All-tail}
 use Rattle.std.proofs.lemmas.List.Folds.{list_any-append}
-use Rattle.lsv_dialogue.specs.Events.{Event, Event.Heard, Event.Late, Event.Said, all_said, as_heard, heard, said}
+use Rattle.lsv_dialogue.specs.Events.{Event, Event.Heard, Event.Late, Event.Said, all_said, heard, said}
 use Rattle.lsv_info.specs.declared.times.Exit.{Exit}
 use Rattle.lsv_info.specs.declared.times.Head.{Head}
 use Rattle.lsv_msg.specs.declared.messages.ClientMessage.{ClientMessage}
@@ -22,9 +22,8 @@ use Rattle.lsv_request.specs.declared.request.Request.TheVariants as request
 use Rattle.lsv_request.specs.declared.request.Restart.{Restart}
 use Rattle.lsv_request.proofs.Meanings.{record_again}
 use Rattle.lsv_transcript.specs.Transcript.{is_id}
-use Rattle.lsv_relay.specs.Talk.{Talk, goes, goes_on, hears, hears_any, hears_point, is_exit, longest_id, says, says_asked}
+use Rattle.lsv_relay.specs.Talk.{Talk, goes, goes_on, hears, hears_point, is_exit, longest_id, says, says_asked}
 use Rattle.lsv_relay.specs.Talks.{Way, Way.Resumes, Way.Anew, opening_of}
-use Rattle.lsv_relay.specs.Value.{waits_after}
 use Rattle.lsv_relay.specs.declared.relay.Meter.{Meter}
 use Rattle.lsv_relay.proofs.Talking.{says_same}
 use Rattle.lsv_base.specs.Time.{nanos_of, time_of}
@@ -57,39 +56,34 @@ pub goes_append : (total : ℕ) (xs ys : List Event) (talk : Talk) → goes_on t
 goes_append total [] ys talk = refl
 goes_append total (e ∷ xs) ys talk = goes_append total xs ys (goes total e talk)
 
--- ---- one step: a message, if there is one, and then what is said
-
--- what is said of the events of a step
-pub said_step : (got : Option ServerMessage) (ms : List ClientMessage) → said (as_heard got ++ all_said ms) ≡ ms
-said_step None ms = said_all ms
-said_step (Some m) ms = said_all ms
-
-pub goes_step : (total : ℕ) (got : Option ServerMessage) (ms : List ClientMessage) (talk : Talk) → goes_on total (as_heard got ++ all_said ms) talk ≡ goes_on total (all_said ms) (hears_any total got talk)
-goes_step total None ms talk = refl
-goes_step total (Some m) ms talk = refl
-
 none_any : (b : Bool) → (b || false) ≡ b
 none_any true = refl
 none_any false = refl
 
--- whether the rest waits, after the messages of a step
-pub waits_step : (resumes : Bool) (events : List Event) (got : Option ServerMessage) (ms : List ClientMessage)
-    → waits_after got (not resumes && not (list_any is_id (heard events))) ≡ (not resumes && not (list_any is_id (heard (events ++ (as_heard got ++ all_said ms)))))
-waits_step resumes events None ms = ap (λ (l : List ServerMessage). not resumes && not (list_any is_id l)) (sym (heard_append events (all_said ms) ∙ ap (λ (l : List ServerMessage). heard events ++ l) (heard_all ms) ∙ append-nil (heard events)))
-waits_step resumes events (Some m) ms = both resumes (list_any is_id (heard events)) (is_id m)
-    ∙ ap (λ (b : Bool). not resumes && not b) (ap (λ (b : Bool). list_any is_id (heard events) || b) (sym (none_any (is_id m))) ∙ sym (list_any-append is_id (heard events) (m ∷ [])))
-    ∙ ap (λ (l : List ServerMessage). not resumes && not (list_any is_id l)) (sym (heard_append events (Heard m ∷ all_said ms) ∙ ap (λ (l : List ServerMessage). heard events ++ m ∷ l) (heard_all ms)))
+-- whether the rest waits, after some events more
+pub waits_more : (resumes : Bool) (events more : List Event)
+    → ((not resumes && not (list_any is_id (heard events))) && not (list_any is_id (heard more))) ≡ (not resumes && not (list_any is_id (heard (events ++ more))))
+waits_more resumes events more = both resumes (list_any is_id (heard events)) (list_any is_id (heard more))
+    ∙ ap (λ (b : Bool). not resumes && not b) (sym (list_any-append is_id (heard events) (heard more)) ∙ ap (list_any is_id) (sym (heard_append events more)))
   where
     both : (a b c : Bool) → ((not a && not b) && not c) ≡ (not a && not (b || c))
     both true b c = refl
     both false true c = refl
     both false false c = refl
 
+-- after one message
+pub waits_one : (waits : Bool) (m : ServerMessage) → (waits && not (is_id m)) ≡ (waits && not (list_any is_id (m ∷ [])))
+waits_one waits m = ap (λ (b : Bool). waits && not b) (sym (none_any (is_id m)))
+
+-- and after none
+pub waits_none : (waits : Bool) → waits ≡ (waits && not (list_any is_id []))
+waits_none true = refl
+waits_none false = refl
+
 -- it doesn't begin to wait again
-pub waits_less : (got : Option ServerMessage) (waits : Bool) → waits_after got waits ≡ true → waits ≡ true
-waits_less None waits e = e
-waits_less (Some m) true e = refl
-waits_less (Some m) false e = absurd (cc)
+pub waits_less : (m : ServerMessage) (waits : Bool) → (waits && not (is_id m)) ≡ true → waits ≡ true
+waits_less m true e = refl
+waits_less m false e = absurd (cc)
 
 -- ---- what is said changes the time that was sent
 
@@ -151,7 +145,7 @@ hears_sent total (server.CommitPoint time) talk = go (nanos_of time)
 
     go : (o : Option ℕ) → (hears_point total o talk).sent ≡ talk.sent
     go None = refl
-    go (Some c) = either (nat_lt talk.sent c || not talk.known || not (keeps_id talk.state)) talk _ refl
+    go (Some c) = either (nat_lt talk.sent c || not talk.known || not (keeps_id talk.state) || talk.whole) talk _ refl
 hears_sent total (server.Error text) talk = either (talk.asked && keeps_id talk.state) talk _ refl
   where
     either : (b : Bool) (a c : Talk) → c.sent ≡ a.sent → (if b then c else a).sent ≡ a.sent
@@ -159,13 +153,9 @@ hears_sent total (server.Error text) talk = either (talk.asked && keeps_id talk.
     either false a c e = refl
 hears_sent total (server.Abort text) talk = refl
 
-pub heard_sent : (total : ℕ) (got : Option ServerMessage) (talk : Talk) → (hears_any total got talk).sent ≡ talk.sent
-heard_sent total None talk = refl
-heard_sent total (Some m) talk = hears_sent total m talk
-
 -- how far a connection is, by its parts
 abbrev pub talk_by : KeepingView → Meter → Talk
-talk_by keeping meter = record { state = keeping.state; known = meter.known; asked = meter.asked; sent = meter.sent; ended = meter.ended }
+talk_by keeping meter = record { state = keeping.state; known = meter.known; asked = meter.asked; sent = meter.sent; ended = meter.ended; whole = meter.whole }
 
 -- the last ones of valid records are valid
 pub all_behind : (records more : List Record) → All IsValid (records ++ more) → All IsValid more

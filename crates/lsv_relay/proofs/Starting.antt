@@ -1,12 +1,13 @@
--- The first step of a connection hands out its opening.
-use Rattle.std.proofs.Common.{◌≡◌, ◌++◌, ◌∷◌, List, [], ℕ, length, take, drop, map, refl, sym, ◌∙◌, ap, subst, Option, append-nil, arith}
+-- A connection begins: its opening is handed out.
+use Rattle.std.proofs.Common.{◌≡◌, ◌++◌, ◌∷◌, List, [], ℕ, length, take, drop, map, refl, sym, ◌∙◌, ap, subst, append-nil, arith}
 use Rattle.std.specs.Prelude.{Bool, true, false, not, ◌&&◌}
+use Rattle.std.specs.List.{list_any}
 use Rattle.std.proofs.Math.Seq.{take-length}
-use Rattle.lsv_dialogue.specs.Events.{Event, all_said, as_heard}
-use Rattle.lsv_disk.specs.Throughout.{OnlyReads, Throughout}
+use Rattle.lsv_dialogue.specs.Events.{all_said}
+use Rattle.lsv_disk.specs.Throughout.{OnlyReads}
 use Rattle.lsv_disk.specs.View.{DiskView}
 use Rattle.lsv_iolog.specs.Reading.{ViewState}
-use Rattle.lsv_kept.specs.Kept.{IsOfRelay, IsOneOf}
+use Rattle.lsv_kept.specs.Aim.{AimView}
 use Rattle.lsv_kept.specs.Value.{KeepingView}
 use Rattle.lsv_kept.specs.declared.state.State.{State}
 use Rattle.lsv_msg.specs.declared.messages.ClientMessage.{ClientMessage}
@@ -15,14 +16,16 @@ use Rattle.lsv_record.specs.Records.{elapsed}
 use Rattle.lsv_record.specs.declared.records.Record.{Record}
 use Rattle.lsv_record.proofs.Points.{first_some}
 use Rattle.lsv_request.specs.Stored.{record_message}
-use Rattle.lsv_relay.specs.Inner.{HasStarted, HasTaken, IsSamePlace}
-use Rattle.lsv_relay.specs.Talk.{Talk, begun, goes_on, hears_any}
-use Rattle.lsv_relay.specs.Talks.{HasLog, InOrder, IsDurable, IsSaid, IsUnsaid, IsWay, KeepsOneOf, Talks, TalksAt, Way, Way.Anew, Way.Resumes, opening_of, resumes, sent_before, skipped, states_of}
-use Rattle.lsv_relay.specs.Value.{RelayView, Stands, state_of, talk_of, waits_after}
-use Rattle.lsv_relay.proofs.Logs.{log_elsewhere, log_stays, way_stays}
-use Rattle.lsv_relay.proofs.Moments.{in_order, no_event, reads_then}
-use Rattle.lsv_relay.proofs.Saying.{goes_step, heard_sent, opening_said, said_step, waits_less, waits_step}
-use Rattle.lsv_relay.proofs.Stepping.{longer_events, state_at_end, state_before, state_next, state_past_end}
+use Rattle.lsv_transcript.specs.Transcript.{is_id}
+use Rattle.lsv_relay.specs.Inner.{HasStarted}
+use Rattle.lsv_relay.specs.Talk.{Talk, begun, goes_on}
+use Rattle.lsv_relay.specs.Talks.{HasLog, InOrder, IsDurable, IsSaid, IsUnsaid, IsWay, Stands, Talks, TalksAt, Way, Way.Anew, Way.Resumes, opening_of, resumes, sent_before, skipped, states_of}
+use Rattle.lsv_relay.specs.Value.{IsUnbegun, RelayView, aim_of, is_broken, state_of, talk_of}
+use Rattle.lsv_relay.specs.declared.relay.Place.{Place}
+use Rattle.lsv_relay.specs.declared.relay.Place.TheVariants as places
+use Rattle.lsv_relay.proofs.Moments.{no_event, reads_durable, reads_keep, then_still}
+use Rattle.lsv_relay.proofs.Saying.{heard_all, opening_said, said_all}
+use Rattle.lsv_relay.proofs.Stepping.{longer_events, state_before}
 
 none_dropped : (n : ℕ) (records : List Record) → length records ≡ n → drop n records ≡ []
 none_dropped n records is = ap (λ (k : ℕ). drop k records) (sym is) ∙ all_dropped records
@@ -49,18 +52,16 @@ with_true : (b : Bool) → b ≡ (b && true)
 with_true true = refl
 with_true false = refl
 
-module _ (began : DiskView) (state : State) (r0 r1 r2 : RelayView) (d0 d1 d2 : DiskView) (got : Option ServerMessage) (opening : List ClientMessage)
-    (begins : IsUnsaid began state r0 d0 []) (durable0 : IsDurable r0.number (state_of r0) d0) (started : HasStarted r0 r1 opening d1) (same01 : (r1.number ≡ r0.number) × (r1.keeping ≡ r0.keeping)) (reads : OnlyReads d0 d1)
-    (taken : HasTaken r1 r2 (hears_any r1.meter.total got (talk_of r1)) (waits_after got r1.meter.waits)) (same12 : IsSamePlace r1 r2)
-    (run : Throughout (IsOfRelay r1.number) (KeepsOneOf r1.number (state_of r1) (hears_any r1.meter.total got (talk_of r1)).state d1) d1 d2) where
+module _ (began : DiskView) (state : State) (r0 r2 : RelayView) (d0 d2 : DiskView) (opening : List ClientMessage) (begins : IsUnsaid began state r0 d0 []) (durable0 : IsDurable r0.number (aim_of r0) (state_of r0) d0)
+    (started : HasStarted r0 r2 opening d2) (number : r2.number ≡ r0.number) (keeping : r2.keeping ≡ r0.keeping) (reads : OnlyReads d0 d2) where
   abbrev n : ℕ
   n = r0.number
 
   abbrev view : ViewState
   view = started.view
 
-  abbrev E : ℕ
-  E = view.body.elapsed
+  abbrev T : ℕ
+  T = (aim_of r2).total
 
   abbrev way : Way
   way = started.way
@@ -68,59 +69,54 @@ module _ (began : DiskView) (state : State) (r0 r1 r2 : RelayView) (d0 d1 d2 : D
   abbrev start : Talk
   start = begun state (resumes way) (sent_before way)
 
-  abbrev step : List Event
-  step = as_heard got ++ all_said opening
+  aim : aim_of r2 ≡ aim_of r0
+  aim = ap (λ (k : KeepingView). k.aim) keeping
 
-  number2 : r2.number ≡ n
-  number2 = same12.number ∙ same01.0
+  talk2 : talk_of r2 ≡ start
+  talk2 = started.talk_is ∙ ap (λ (s : State). begun s (resumes way) (sent_before way)) begins.same
 
-  run0 : Throughout (IsOfRelay n) (KeepsOneOf n (state_of r1) (hears_any r1.meter.total got (talk_of r1)).state d1) d1 d2
-  run0 = subst (λ (k : ℕ). Throughout (IsOfRelay k) (KeepsOneOf k (state_of r1) (hears_any r1.meter.total got (talk_of r1)).state d1) d1 d2) same01.0 run
+  goes : goes_on T (all_said opening) start ≡ start
+  goes = ap (λ (ms : List ClientMessage). goes_on T (all_said ms) start) started.opening_is ∙ opening_said T way view.head start
 
-  state1 : state_of r1 ≡ state
-  state1 = ap (λ (k : KeepingView). k.state) same01.1 ∙ begins.same
+  moments0 : InOrder n (aim_of r0) began d2 (states_of (aim_of r0).total start (all_said opening)) (length (all_said opening))
+  moments0 = then_still n (aim_of r0) began d0 d2 (states_of (aim_of r0).total start []) (states_of (aim_of r0).total start (all_said opening)) 0 (length (all_said opening)) (state_of r0)
+      (no_event n (aim_of r0) state began d0 (states_of (aim_of r0).total start []) begins.moments refl)
+      (longer_events [] (all_said opening)) (state_before (aim_of r0).total start [] (all_said opening)) begins.same
+      (reads_keep n (aim_of r0) (state_of r0) d0 d2 durable0 reads)
 
-  talk1 : talk_of r1 ≡ start
-  talk1 = started.talk_is ∙ ap (λ (s : State). begun s (resumes way) (sent_before way)) begins.same
-
-  heard_then : hears_any r1.meter.total got (talk_of r1) ≡ hears_any E got start
-  heard_then = ap (λ (k : ℕ). hears_any k got (talk_of r1)) started.total ∙ ap (hears_any E got) talk1
-
-  steps_to : goes_on E step start ≡ hears_any E got start
-  steps_to = goes_step E got opening start ∙ (ap (λ (ms : List ClientMessage). goes_on E (all_said ms) (hears_any E got start)) started.opening_is ∙ opening_said E way view.head (hears_any E got start))
-
-  moves : Throughout (IsOfRelay n) (IsOneOf n state (hears_any E got start).state) d0 d2
-  moves = reads_then n state (hears_any E got start).state d0 d1 d2 (subst (λ (s : State). IsDurable n s d0) begins.same durable0) reads
-      (subst (λ (s : State). Throughout (IsOfRelay n) (KeepsOneOf n state s d1) d1 d2) (ap (λ (t : Talk). t.state) heard_then)
-      (subst (λ (s : State). Throughout (IsOfRelay n) (KeepsOneOf n s (hears_any r1.meter.total got (talk_of r1)).state d1) d1 d2) state1 run0))
-
-  moments : InOrder n began d2 (states_of E start step) (length step)
-  moments = in_order n began d0 d2 (states_of E start []) (states_of E start step) 0 (length step) (no_event n state began d0 (states_of E start []) begins.moments refl) state (hears_any E got start).state moves
-      (state_before E start [] step) (state_past_end E start []) (sym (state_at_end E start []))
-      (state_next E start [] got opening)
-      (longer_events [] step)
-
-  pub first_said : IsSaid began state r2 view d2 step []
+  first_said : IsSaid began state r2 view d2 (all_said opening) []
   first_said = record {
     records = started.records;
-    log = subst (λ (k : ℕ). HasLog k view started.records d2) (sym number2) (log_stays n d1 d2 (log_elsewhere n d1 d2 run0.elsewhere) view started.records started.log);
+    log = subst (λ (k : ℕ). HasLog k view started.records d2) (sym number) started.log;
     way = way;
-    is_way = subst (λ (k : ℕ). IsWay state k d2 started.records way) (sym number2)
-        (way_stays state n d1 d2 started.records started.records way (log_elsewhere n d1 d2 run0.elsewhere) (subst (λ (s : State). IsWay s n d1 started.records way) begins.same started.is_way) (λ point k at. at));
-    total = taken.total ∙ started.total;
-    sent = ap (λ (t : Talk). t.sent) taken.talk_is ∙ (heard_sent r1.meter.total got (talk_of r1) ∙ (ap (λ (t : Talk). t.sent) talk1 ∙ passed_time (state_of r0) n d1 started.records way started.is_way started.passed));
-    said_is = said_step got opening ∙ (started.opening_is ∙ (sym (append-nil (opening_of way view.head))
+    is_way = subst (λ (k : ℕ). IsWay state k d2 started.records way) (sym number) (subst (λ (s : State). IsWay s n d2 started.records way) begins.same started.is_way);
+    sent = ap (λ (t : Talk). t.sent) talk2 ∙ passed_time (state_of r0) n d2 started.records way started.is_way started.passed;
+    said_is = said_all opening ∙ (started.opening_is ∙ (sym (append-nil (opening_of way view.head))
         ∙ ap (λ (rs : List Record). opening_of way view.head ++ (map record_message rs ++ [])) (sym (none_dropped (skipped way) started.records started.passed))));
-    waits = taken.waits_is ∙ (ap (waits_after got) (started.waits ∙ with_true (not (resumes way))) ∙ waits_step (resumes way) [] got opening);
-    none_yet = λ waits. waits_anew way started.records (sym started.waits ∙ waits_less got r1.meter.waits (sym taken.waits_is ∙ waits)) started.passed;
-    talk_is = taken.talk_is ∙ (heard_then ∙ sym steps_to);
-    moments = subst (λ (k : ℕ). InOrder k began d2 (states_of E start step) (length step)) (sym number2) moments;
+    waits = started.waits ∙ (with_true (not (resumes way)) ∙ ap (λ (ms : List ServerMessage). not (resumes way) && not (list_any is_id ms)) (sym (heard_all opening)));
+    none_yet = λ waits. waits_anew way started.records (sym started.waits ∙ waits) started.passed;
+    total = started.total;
+    talk_is = talk2 ∙ sym goes;
+    moments = subst (λ (k : ℕ). InOrder k (aim_of r2) began d2 (states_of T start (all_said opening)) (length (all_said opening))) (sym number)
+        (subst (λ (a : AimView). InOrder n a began d2 (states_of a.total start (all_said opening)) (length (all_said opening))) (sym aim) moments0);
   }
 
-  pub first_talks : Stands r2 d2 → IsDurable r1.number (state_of r2) d2 → Talks began state r2 d2 step
-  first_talks stands durable = record {
-    whole = taken.whole;
+  pub first_talks : is_broken r2 ≡ false → Stands r2 d2 → Talks began state r2 d2 (all_said opening)
+  first_talks whole stands = record {
+    whole = whole;
     stands = stands;
-    durable = subst (λ (k : ℕ). IsDurable k (state_of r2) d2) (sym same12.number) durable;
-    at = subst (TalksAt began state r2 d2 step) (sym (same12.at ∙ started.at)) first_said;
+    durable = subst (λ (k : ℕ). IsDurable k (aim_of r2) (state_of r2) d2) (sym number) (subst (λ (k : KeepingView). IsDurable n k.aim k.state d2) (sym keeping) (reads_durable n (aim_of r0) (state_of r0) d0 d2 durable0 reads));
+    at = subst (TalksAt began state r2 d2 (all_said opening)) (sym started.at) first_said;
   }
+
+unsaid_at : (began : DiskView) (state : State) (relay : RelayView) (disk : DiskView) (p : Place) → IsUnbegun p → TalksAt began state relay disk [] p → IsUnsaid began state relay disk []
+unsaid_at began state relay disk places.Idle is at = absurd is
+unsaid_at began state relay disk (places.Starts log) is at = at
+unsaid_at began state relay disk (places.Sends log) is at = absurd is
+unsaid_at began state relay disk places.Over is at = absurd is
+
+-- a relay that was opened begins its connection
+pub begins_talks : (began : DiskView) (state : State) (r0 r2 : RelayView) (d0 d2 : DiskView) (opening : List ClientMessage) → IsUnbegun r0.at → Talks began state r0 d0 [] → HasStarted r0 r2 opening d2 → r2.number ≡ r0.number → r2.keeping ≡ r0.keeping → OnlyReads d0 d2 → Stands r2 d2
+    → Talks began state r2 d2 (all_said opening)
+begins_talks began state r0 r2 d0 d2 opening unbegun talks started number keeping reads stands =
+    first_talks began state r0 r2 d0 d2 opening (unsaid_at began state r0 d0 r0.at unbegun talks.at) talks.durable started number keeping reads (ap (λ (k : KeepingView). k.broken) keeping ∙ talks.whole) stands

@@ -1,17 +1,19 @@
--- A step goes on with what was said and heard.
-use Rattle.std.proofs.Common.{◌≡◌, ◌⊎◌, inl, inr, ◌++◌, ◌∷◌, ◌+◌, ◌≤◌, ◌<◌, ◌-◌, ◌^◌, List, [], ℕ, length, length-append, take, drop, map, refl, sym, ◌∙◌, ap, subst, Option, Some, None, append_assoc, append-nil, arith}
+-- A call goes on with what was said and heard.
+use Rattle.std.proofs.Common.{◌≡◌, ◌⊎◌, inl, inr, ◌++◌, ◌∷◌, ◌+◌, ◌≤◌, ◌<◌, ◌-◌, ◌^◌, List, [], ℕ, length, length-append, drop, map, refl, sym, ◌∙◌, ap, subst, Some, append_assoc, append-nil, arith}
 use Rattle.std.specs.Prelude.{Bool, true, false, not, ◌&&◌, min}
+use Rattle.std.specs.List.{list_any}
 use Rattle.std.proofs.Math.Seq.{take-append-add, take-length}
-use Rattle.std.proofs.lemmas.List.{drop-append-le, take-append-le, take_all}
+use Rattle.std.proofs.lemmas.List.{drop-append-le, take-append-le}
 use Rattle.lsv_bundle.specs.declared.body.Body.{Body}
-use Rattle.lsv_dialogue.specs.Events.{Event, all_said, as_heard, said}
+use Rattle.lsv_dialogue.specs.Events.{Event, Event.Heard, Event.Late, all_said, heard, said}
 use Rattle.lsv_disk.specs.Throughout.{OnlyReads, Throughout}
 use Rattle.lsv_disk.specs.View.{DiskView}
 use Rattle.lsv_disk.specs.declared.file.Part.TheVariants.{Exit as ExitPart}
 use Rattle.lsv_info.specs.Reading.{exit_of}
 use Rattle.lsv_info.specs.declared.times.Head.{Head}
 use Rattle.lsv_iolog.specs.Reading.{ViewState, committed_text}
-use Rattle.lsv_kept.specs.Kept.{IsOfRelay, IsOneOf, Keeps}
+use Rattle.lsv_kept.specs.Aim.{AimView}
+use Rattle.lsv_kept.specs.Kept.{IsOfRelay}
 use Rattle.lsv_kept.specs.Value.{KeepingView}
 use Rattle.lsv_kept.specs.declared.state.State.{State}
 use Rattle.lsv_msg.specs.declared.messages.ClientMessage.{ClientMessage}
@@ -23,108 +25,71 @@ use Rattle.lsv_record.proofs.Layouts.{elapsed-append}
 use Rattle.lsv_record.proofs.Points.{first_append, first_some}
 use Rattle.lsv_request.specs.Stored.{exit_message, record_message}
 use Rattle.lsv_transcript.specs.Transcript.{is_id}
-use Rattle.lsv_relay.specs.Inner.{Answers, GivesExit, GivesRecords, HasTaken, IsSamePlace}
-use Rattle.lsv_relay.specs.Talk.{Talk, begun, goes_on, hears_any}
-use Rattle.lsv_relay.specs.Talks.{HasLog, InOrder, IsAllSaid, IsDurable, IsPiece, IsSaid, IsWay, KeepsOneOf, Talks, TalksAt, Way, opening_of, resumes, Way.Anew, Way.Resumes, sent_before, skipped, states_of}
-use Rattle.lsv_relay.specs.Value.{IsStarted, RelayView, Stands, state_of, talk_of, waits_after}
+use Rattle.lsv_relay.specs.Inner.{Answers, GivesExit, GivesRecords, IsSamePlace}
+use Rattle.lsv_relay.specs.Talk.{Talk, begun, goes, goes_on}
+use Rattle.lsv_relay.specs.Talks.{HasLog, InOrder, IsAllSaid, IsDurable, IsPiece, IsSaid, IsWay, KeepsOneOf, Stands, Talks, TalksAt, Way, opening_of, resumes, Way.Anew, Way.Resumes, sent_before, skipped, states_of}
+use Rattle.lsv_relay.specs.Value.{IsStarted, RelayView, aim_of, is_broken, state_of, talk_of}
 use Rattle.lsv_relay.specs.declared.relay.Meter.{Meter}
 use Rattle.lsv_relay.specs.declared.relay.Place.{Place}
 use Rattle.lsv_relay.specs.declared.relay.Place.TheVariants as places
 use Rattle.lsv_relay.proofs.Logs.{SameLog, log_elsewhere, log_stays, text_stays, way_stays, whole_stays}
-use Rattle.lsv_relay.proofs.Moments.{in_order, reads_durable, then_reads}
-use Rattle.lsv_relay.proofs.Saying.{all_behind, goes_append, heard_sent, records_said, same_sent, talk_by, goes_step, said_append, said_step, waits_less, waits_step}
-use Rattle.lsv_relay.proofs.Talking.{says_same}
+use Rattle.lsv_relay.proofs.Moments.{heard_moves, reads_durable, reads_keep, then_heard, then_still}
+use Rattle.lsv_relay.proofs.Saying.{all_behind, goes_append, hears_sent, records_said, said_all, heard_all, same_sent, said_append, talk_by, waits_less, waits_more, waits_none, waits_one}
+use Rattle.lsv_relay.proofs.Talking.{unsaid}
 
 -- ---- states after events
 
-all_taken : (events : List Event) → take (length events) events ≡ events
-all_taken events = take-length events
-
-more_taken : (events : List Event) → take (length events + 1) events ≡ events
-more_taken events = take_all (length events + 1) events (let h : length events ≤ length events + 1 = omega arith in h)
-
--- one event more than before a step is its message, or something said
-first_of_step : (total : ℕ) (got : Option ServerMessage) (ms : List ClientMessage) (talk : Talk) → (goes_on total (take 1 (as_heard got ++ all_said ms)) talk).state ≡ (hears_any total got talk).state
-first_of_step total (Some m) ms talk = refl
-first_of_step total None [] talk = refl
-first_of_step total None (m ∷ ms) talk = says_same m talk
-
 pub state_at_end : (total : ℕ) (talk : Talk) (events : List Event) → states_of total talk events (length events) ≡ (goes_on total events talk).state
-state_at_end total talk events = ap (λ (es : List Event). (goes_on total es talk).state) (all_taken events)
-
-pub state_past_end : (total : ℕ) (talk : Talk) (events : List Event) → states_of total talk events (length events + 1) ≡ states_of total talk events (length events)
-state_past_end total talk events = ap (λ (es : List Event). (goes_on total es talk).state) (more_taken events ∙ sym (all_taken events))
+state_at_end total talk events = ap (λ (es : List Event). (goes_on total es talk).state) (take-length events)
 
 pub state_before : (total : ℕ) (talk : Talk) (events more : List Event) (j : ℕ) → j ≤ length events → states_of total talk (events ++ more) j ≡ states_of total talk events j
 state_before total talk events more j le = ap (λ (es : List Event). (goes_on total es talk).state) (take-append-le j events more le)
 
-pub state_next : (total : ℕ) (talk : Talk) (events : List Event) (got : Option ServerMessage) (ms : List ClientMessage)
-    → states_of total talk (events ++ (as_heard got ++ all_said ms)) (length events + 1) ≡ (hears_any total got (goes_on total events talk)).state
-state_next total talk events got ms =
-    ap (λ (es : List Event). (goes_on total es talk).state) (take-append-add events (as_heard got ++ all_said ms) 1)
-    ∙ (ap (λ (t : Talk). t.state) (goes_append total events (take 1 (as_heard got ++ all_said ms)) talk) ∙ first_of_step total got ms (goes_on total events talk))
+-- one event more
+pub state_next : (total : ℕ) (talk : Talk) (events : List Event) (e : Event) → states_of total talk (events ++ e ∷ []) (length events + 1) ≡ (goes total e (goes_on total events talk)).state
+state_next total talk events e = ap (λ (es : List Event). (goes_on total es talk).state) (take-append-add events (e ∷ []) 1) ∙ ap (λ (t : Talk). t.state) (goes_append total events (e ∷ []) talk)
 
 pub longer_events : (events more : List Event) → length events ≤ length (events ++ more)
 longer_events events more = let h = length-append events more in omega (arith, h)
 
--- ---- what was said, with a step more
+one_longer : (events : List Event) (e : Event) → length events < length (events ++ e ∷ [])
+one_longer events e = let h : length (events ++ e ∷ []) ≡ length events + 1 = length-append events (e ∷ []) in omega (arith, h)
 
-module _ (began : DiskView) (state : State) (r0 r2 : RelayView) (view next : ViewState) (d0 d2 : DiskView) (events : List Event) (got : Option ServerMessage) (ms ending ending2 : List ClientMessage) (is : IsSaid began state r0 view d0 events ending)
-    (records2 : List Record) (number : r2.number ≡ r0.number) (log2 : HasLog r0.number next records2 d2) (body : next.body ≡ view.body) (head : next.head ≡ view.head) (same_log : SameLog r0.number d0 d2)
+-- ---- what was said, with some events more
+
+module _ (began : DiskView) (state : State) (r0 r2 : RelayView) (view next : ViewState) (d0 d2 : DiskView) (events more : List Event) (ending ending2 : List ClientMessage) (is : IsSaid began state r0 view d0 events ending)
+    (records2 : List Record) (number : r2.number ≡ r0.number) (aim : aim_of r2 ≡ aim_of r0) (log2 : HasLog r0.number next records2 d2) (body : next.body ≡ view.body) (head : next.head ≡ view.head) (same_log : SameLog r0.number d0 d2)
     (further : (point k : ℕ) → first is.records point ≡ Some k → first records2 point ≡ Some k)
-    (said2 : (map record_message (drop (skipped is.way) is.records) ++ ending) ++ ms ≡ map record_message (drop (skipped is.way) records2) ++ ending2)
-    (total2 : r2.meter.total ≡ r0.meter.total) (sent2 : r2.meter.sent ≡ elapsed records2) (waits2 : r2.meter.waits ≡ waits_after got r0.meter.waits) (none2 : r2.meter.waits ≡ true → records2 ≡ [])
-    (talk2 : talk_of r2 ≡ goes_on r0.meter.total (all_said ms) (hears_any r0.meter.total got (talk_of r0)))
-    (run2 : Throughout (IsOfRelay r0.number) (IsOneOf r0.number (state_of r0) (hears_any r0.meter.total got (talk_of r0)).state) d0 d2) where
-  abbrev E : ℕ
-  E = view.body.elapsed
-
+    (said2 : (map record_message (drop (skipped is.way) is.records) ++ ending) ++ said more ≡ map record_message (drop (skipped is.way) records2) ++ ending2)
+    (sent2 : r2.meter.sent ≡ elapsed records2) (waits2 : r2.meter.waits ≡ (r0.meter.waits && not (list_any is_id (heard more)))) (none2 : r2.meter.waits ≡ true → records2 ≡ [])
+    (talk2 : talk_of r2 ≡ goes_on (aim_of r0).total more (talk_of r0))
+    (moments2 : InOrder r0.number (aim_of r0) began d2 (states_of (aim_of r0).total (begun state (resumes is.way) (sent_before is.way)) (events ++ more)) (length (events ++ more))) where
   abbrev start : Talk
   start = begun state (resumes is.way) (sent_before is.way)
 
-  abbrev step : List Event
-  step = as_heard got ++ all_said ms
+  said_is : said (events ++ more) ≡ opening_of is.way view.head ++ (map record_message (drop (skipped is.way) records2) ++ ending2)
+  said_is = said_append events more ∙ (ap (λ (l : List ClientMessage). l ++ said more) is.said_is
+      ∙ (append_assoc (opening_of is.way view.head) (map record_message (drop (skipped is.way) is.records) ++ ending) (said more)
+      ∙ ap (λ (l : List ClientMessage). opening_of is.way view.head ++ l) said2))
 
-  heard_then : hears_any r0.meter.total got (talk_of r0) ≡ hears_any E got (goes_on E events start)
-  heard_then = ap (λ (n : ℕ). hears_any n got (talk_of r0)) is.total ∙ ap (hears_any E got) is.talk_is
-
-  talk_is : talk_of r2 ≡ goes_on E (events ++ step) start
-  talk_is = talk2 ∙ (ap (λ (n : ℕ). goes_on n (all_said ms) (hears_any r0.meter.total got (talk_of r0))) is.total
-      ∙ (ap (goes_on E (all_said ms)) heard_then ∙ (sym (goes_step E got ms (goes_on E events start)) ∙ sym (goes_append E events step start))))
-
-  said_is : said (events ++ step) ≡ opening_of is.way view.head ++ (map record_message (drop (skipped is.way) records2) ++ ending2)
-  said_is = said_append events step ∙ (ap (λ (l : List ClientMessage). said events ++ l) (said_step got ms)
-      ∙ (ap (λ (l : List ClientMessage). l ++ ms) is.said_is
-      ∙ (append_assoc (opening_of is.way view.head) (map record_message (drop (skipped is.way) is.records) ++ ending) ms
-      ∙ ap (λ (l : List ClientMessage). opening_of is.way view.head ++ l) said2)))
-
-  moments : InOrder r0.number began d2 (states_of E start (events ++ step)) (length (events ++ step))
-  moments = in_order r0.number began d0 d2 (states_of E start events) (states_of E start (events ++ step)) (length events) (length (events ++ step)) is.moments (state_of r0) (hears_any r0.meter.total got (talk_of r0)).state run2
-      (state_before E start events step) (state_past_end E start events)
-      (ap (λ (t : Talk). t.state) is.talk_is ∙ sym (state_at_end E start events))
-      (state_next E start events got ms ∙ ap (λ (t : Talk). t.state) (sym heard_then))
-      (longer_events events step)
-
-  pub more_said : IsSaid began state r2 next d2 (events ++ step) ending2
+  pub more_said : IsSaid began state r2 next d2 (events ++ more) ending2
   more_said = record {
     records = records2;
     log = subst (λ (n : ℕ). HasLog n next records2 d2) (sym number) log2;
     way = is.way;
     is_way = subst (λ (n : ℕ). IsWay state n d2 records2 is.way) (sym number) (way_stays state r0.number d0 d2 is.records records2 is.way same_log is.is_way further);
-    total = total2 ∙ (is.total ∙ ap (λ (b : Body). b.elapsed) (sym body));
     sent = sent2;
     said_is = said_is ∙ ap (λ (h : Head). opening_of is.way h ++ (map record_message (drop (skipped is.way) records2) ++ ending2)) (sym head);
-    waits = waits2 ∙ (ap (waits_after got) is.waits ∙ waits_step (resumes is.way) events got ms);
+    waits = waits2 ∙ (ap (λ (w : Bool). w && not (list_any is_id (heard more))) is.waits ∙ waits_more (resumes is.way) events more);
     none_yet = none2;
-    talk_is = talk_is ∙ ap (λ (b : Body). goes_on b.elapsed (events ++ step) start) (sym body);
-    moments = subst (λ (b : Body). InOrder r2.number began d2 (states_of b.elapsed start (events ++ step)) (length (events ++ step))) (sym body)
-        (subst (λ (n : ℕ). InOrder n began d2 (states_of E start (events ++ step)) (length (events ++ step))) (sym number) moments);
+    total = ap (λ (a : AimView). a.total) aim ∙ (is.total ∙ ap (λ (b : Body). b.elapsed) (sym body));
+    talk_is = talk2 ∙ (ap (goes_on (aim_of r0).total more) is.talk_is ∙ (sym (goes_append (aim_of r0).total events more start) ∙ ap (λ (a : AimView). goes_on a.total (events ++ more) start) (sym aim)));
+    moments = subst (λ (n : ℕ). InOrder n (aim_of r2) began d2 (states_of (aim_of r2).total start (events ++ more)) (length (events ++ more))) (sym number)
+        (subst (λ (a : AimView). InOrder r0.number a began d2 (states_of a.total start (events ++ more)) (length (events ++ more))) (sym aim) moments2);
   }
 
--- ---- one step, once the opening was handed out
-
-same_view : (a b : ViewState) (p : Place) → p ≡ places.Sends a → p ≡ places.Sends b → a ≡ b
-same_view a b p one two = let both : places.Sends a ≡ places.Sends b = sym one ∙ two in cc (both)
+unit : (xs : List ClientMessage) → xs ++ [] ≡ xs
+unit xs = append-nil xs
 
 pub skipped_within : (state : State) (n : ℕ) (disk : DiskView) (records : List Record) (way : Way) → IsWay state n disk records way → skipped way ≤ length records
 skipped_within state n disk records (Resumes id point k) is = (first_some records point k is.1).within
@@ -137,172 +102,223 @@ drop_more k records more le = ap (map record_message) (drop-append-le k records 
     map_append [] ys = refl
     map_append (x ∷ xs) ys = ap (λ (l : List ClientMessage). record_message x ∷ l) (map_append xs ys)
 
-unit : (xs : List ClientMessage) → xs ++ [] ≡ xs
-unit xs = append-nil xs
+-- ---- a message was heard
 
-module _ (began : DiskView) (state : State) (r0 r1 r2 : RelayView) (d0 d1 d2 : DiskView) (events : List Event) (got : Option ServerMessage) (ms : List ClientMessage)
-    (taken : HasTaken r0 r1 (hears_any r0.meter.total got (talk_of r0)) (waits_after got r0.meter.waits)) (same01 : IsSamePlace r0 r1)
-    (run : Throughout (IsOfRelay r0.number) (KeepsOneOf r0.number (state_of r0) (hears_any r0.meter.total got (talk_of r0)).state d0) d0 d1)
-    (durable0 : IsDurable r0.number (state_of r0) d0) (durable1 : IsDurable r0.number (state_of r1) d1)
-    (same12 : (r2.number ≡ r1.number) × (r2.keeping ≡ r1.keeping)) (reads : OnlyReads d1 d2) where
+-- an event by which this message is heard, in time or late
+pub data Hearing (m : ServerMessage) : Event → Type 0 where
+  in_time : Hearing m (Heard m)
+  too_late : Hearing m (Late m)
+
+heard_of : (m : ServerMessage) (e : Event) → Hearing m e → heard (e ∷ []) ≡ m ∷ []
+heard_of m e in_time = refl
+heard_of m e too_late = refl
+
+said_of : (m : ServerMessage) (e : Event) → Hearing m e → said (e ∷ []) ≡ []
+said_of m e in_time = refl
+said_of m e too_late = refl
+
+sent_of : (total : ℕ) (m : ServerMessage) (e : Event) (talk : Talk) → Hearing m e → (goes total e talk).sent ≡ talk.sent
+sent_of total m e talk in_time = hears_sent total m talk
+sent_of total m e talk too_late = hears_sent total m (unsaid talk)
+
+module _ (began : DiskView) (state : State) (r0 r2 : RelayView) (d0 d2 : DiskView) (events : List Event) (m : ServerMessage) (e : Event) (hearing : Hearing m e)
+    (talk2 : talk_of r2 ≡ goes (aim_of r0).total e (talk_of r0)) (waits2 : r2.meter.waits ≡ (r0.meter.waits && not (is_id m))) (same : IsSamePlace r0 r2)
+    (run : Throughout (IsOfRelay r0.number) (KeepsOneOf r0.number (aim_of r0) (state_of r0) (goes (aim_of r0).total e (talk_of r0)).state d0) d0 d2)
+    (durable0 : IsDurable r0.number (aim_of r0) (state_of r0) d0) where
   abbrev n : ℕ
   n = r0.number
 
-  -- what was heard makes the state
-  heard_state : state_of r1 ≡ (hears_any r0.meter.total got (talk_of r0)).state
-  heard_state = ap (λ (t : Talk). t.state) taken.talk_is
-
-  moves : Throughout (IsOfRelay n) (IsOneOf n (state_of r0) (hears_any r0.meter.total got (talk_of r0)).state) d0 d2
-  moves = then_reads n (state_of r0) (hears_any r0.meter.total got (talk_of r0)).state d0 d1 d2 run durable0 (λ image left. subst (Keeps n image) heard_state (durable1 image left)) reads
-
-  same_number : r2.number ≡ n
-  same_number = same12.0 ∙ same01.number
-
-  log01 : SameLog n d0 d1
-  log01 = log_elsewhere n d0 d1 run.elsewhere
-
-  log12 : SameLog n d1 d2
-  log12 file own = reads.unchanged.elsewhere.same file (λ none. none)
+  abbrev T : ℕ
+  T = (aim_of r0).total
 
   log02 : SameLog n d0 d2
-  log02 file own = log12 file own ∙ log01 file own
+  log02 = log_elsewhere n d0 d2 run.elsewhere
+
+  module _ (view : ViewState) (ending : List ClientMessage) (is : IsSaid began state r0 view d0 events ending) where
+    abbrev begins : Talk
+    begins = begun state (resumes is.way) (sent_before is.way)
+
+    moments : InOrder n (aim_of r0) began d2 (states_of T begins (events ++ e ∷ [])) (length (events ++ e ∷ []))
+    moments = then_heard n (aim_of r0) began d0 d2 (states_of T begins events) (states_of T begins (events ++ e ∷ [])) (length events) (length (events ++ e ∷ [])) (state_of r0) (goes T e (talk_of r0)).state is.moments
+        (one_longer events e) (state_before T begins events (e ∷ [])) (ap (λ (t : Talk). t.state) is.talk_is ∙ sym (state_at_end T begins events))
+        (state_next T begins events e ∙ ap (λ (t : Talk). (goes T e t).state) (sym is.talk_is))
+        (heard_moves n (aim_of r0) (state_of r0) (goes T e (talk_of r0)).state d0 d2 durable0 run)
+
+    pub heard_said : IsSaid began state r2 view d2 (events ++ e ∷ []) ending
+    heard_said = more_said began state r0 r2 view view d0 d2 events (e ∷ []) ending ending is is.records same.number same.aim (log_stays n d0 d2 log02 view is.records is.log) refl refl log02 (λ point k at. at)
+        (ap (λ (l : List ClientMessage). (map record_message (drop (skipped is.way) is.records) ++ ending) ++ l) (said_of m e hearing) ∙ unit _)
+        (ap (λ (t : Talk). t.sent) talk2 ∙ (sent_of T m e (talk_of r0) hearing ∙ is.sent))
+        (waits2 ∙ (waits_one r0.meter.waits m ∙ ap (λ (ms : List ServerMessage). r0.meter.waits && not (list_any is_id ms)) (sym (heard_of m e hearing))))
+        (λ waits. is.none_yet (waits_less m r0.meter.waits (sym waits2 ∙ waits)))
+        talk2 moments
+
+  still : r0.meter.waits ≡ false → (r0.meter.waits && not (is_id m)) ≡ false
+  still no_ = ap (λ (b : Bool). b && not (is_id m)) no_
+
+  heard_all_said : IsAllSaid began state r0 d0 events → IsAllSaid began state r2 d2 (events ++ e ∷ [])
+  unfolding heard_said more_said
+  heard_all_said all = record {
+    view = all.view;
+    exit = all.exit;
+    is = heard_said all.view (exit_message all.exit ∷ []) all.is;
+    all_read = whole_stays n d0 d2 log02 all.view all.is.records all.is.log.number all.all_read;
+    exit_is = ap (λ (k : ℕ). exit_of (committed_text k all.view.body d2 ExitPart)) same.number ∙ (ap exit_of (text_stays n d0 d2 log02 all.view.body ExitPart) ∙ all.exit_is);
+    heard_id = waits2 ∙ still all.heard_id;
+  }
+
+  heard_at : (p : Place) → IsStarted p → TalksAt began state r0 d0 events p → TalksAt began state r2 d2 (events ++ e ∷ []) p
+  heard_at places.Idle started at = absurd started
+  heard_at (places.Starts view) started at = absurd started
+  heard_at (places.Sends view) started at = heard_said view [] at
+  heard_at places.Over started at = heard_all_said at
+
+  pub heard_talks : IsStarted r0.at → Talks began state r0 d0 events → Stands r2 d2 → is_broken r2 ≡ false → IsDurable n (aim_of r0) (state_of r2) d2 → Talks began state r2 d2 (events ++ e ∷ [])
+  heard_talks started talks stands whole durable = record {
+    whole = whole;
+    stands = stands;
+    durable = subst (λ (k : ℕ). IsDurable k (aim_of r2) (state_of r2) d2) (sym same.number) (subst (λ (a : AimView). IsDurable n a (state_of r2) d2) (sym same.aim) durable);
+    at = subst (TalksAt began state r2 d2 (events ++ e ∷ [])) (sym same.at) (heard_at r0.at started talks.at);
+  }
+
+-- ---- something was said
+
+same_view : (a b : ViewState) (p : Place) → p ≡ places.Sends a → p ≡ places.Sends b → a ≡ b
+same_view a b p one two = let both : places.Sends a ≡ places.Sends b = sym one ∙ two in cc (both)
+
+module _ (began : DiskView) (state : State) (r0 r2 : RelayView) (d0 d2 : DiskView) (events : List Event) (ms : List ClientMessage)
+    (durable0 : IsDurable r0.number (aim_of r0) (state_of r0) d0) (number : r2.number ≡ r0.number) (keeping : r2.keeping ≡ r0.keeping) (reads : OnlyReads d0 d2) where
+  abbrev m0 : ℕ
+  m0 = r0.number
+
+  abbrev total0 : ℕ
+  total0 = (aim_of r0).total
+
+  aim : aim_of r2 ≡ aim_of r0
+  aim = ap (λ (k : KeepingView). k.aim) keeping
+
+  logs_same : SameLog m0 d0 d2
+  logs_same file own = reads.unchanged.elsewhere.same file (λ none. none)
+
+  moments_on : (view : ViewState) (ending : List ClientMessage) (is : IsSaid began state r0 view d0 events ending) → InOrder m0 (aim_of r0) began d2 (states_of total0 (begun state (resumes is.way) (sent_before is.way)) (events ++ all_said ms)) (length (events ++ all_said ms))
+  moments_on view ending is =
+      let begins = begun state (resumes is.way) (sent_before is.way) in
+      then_still m0 (aim_of r0) began d0 d2 (states_of total0 begins events) (states_of total0 begins (events ++ all_said ms)) (length events) (length (events ++ all_said ms)) (state_of r0) is.moments
+      (longer_events events (all_said ms)) (state_before total0 begins events (all_said ms)) (ap (λ (t : Talk). t.state) is.talk_is ∙ sym (state_at_end total0 begins events))
+      (reads_keep m0 (aim_of r0) (state_of r0) d0 d2 durable0 reads)
+
+  waits_same : (w : Bool) → w ≡ r0.meter.waits → w ≡ (r0.meter.waits && not (list_any is_id (heard (all_said ms))))
+  waits_same w is = is ∙ (waits_none r0.meter.waits ∙ ap (λ (l : List ServerMessage). r0.meter.waits && not (list_any is_id l)) (sym (heard_all ms)))
 
   -- nothing was said
-  quiet_said : (view : ViewState) (ending : List ClientMessage) → IsSaid began state r0 view d0 events ending → ms ≡ [] → r2 ≡ r1 → IsSaid began state r2 view d2 (events ++ (as_heard got ++ all_said ms)) ending
+  quiet_said : (view : ViewState) (ending : List ClientMessage) → IsSaid began state r0 view d0 events ending → ms ≡ [] → r2 ≡ r0 → IsSaid began state r2 view d2 (events ++ all_said ms) ending
   quiet_said view ending is none same =
-      more_said began state r0 r2 view view d0 d2 events got ms ending ending is is.records same_number (log_stays n d0 d2 log02 view is.records is.log) refl refl log02 (λ point k at. at)
-      (ap (λ (l : List ClientMessage). (map record_message (drop (skipped is.way) is.records) ++ ending) ++ l) none ∙ unit _)
-      (ap (λ (r : RelayView). r.meter.total) same ∙ taken.total) (ap (λ (r : RelayView). r.meter.sent) same ∙ sent_same ∙ is.sent)
-      (ap (λ (r : RelayView). r.meter.waits) same ∙ taken.waits_is) (λ waits. is.none_yet (waits_less got r0.meter.waits (sym (ap (λ (r : RelayView). r.meter.waits) same ∙ taken.waits_is) ∙ waits)))
-      (ap talk_of same ∙ (taken.talk_is ∙ ap (λ (l : List ClientMessage). goes_on r0.meter.total (all_said l) (hears_any r0.meter.total got (talk_of r0))) (sym none)))
-      moves
-    where
-      sent_same : r1.meter.sent ≡ r0.meter.sent
-      sent_same = ap (λ (t : Talk). t.sent) taken.talk_is ∙ heard_sent r0.meter.total got (talk_of r0)
-
-  number1 : r1.number ≡ n
-  number1 = same01.number
-
-  sent1 : r1.meter.sent ≡ r0.meter.sent
-  sent1 = ap (λ (t : Talk). t.sent) taken.talk_is ∙ heard_sent r0.meter.total got (talk_of r0)
-
-  log_there : (view : ViewState) (records : List Record) → HasLog n view records d0 → HasLog r1.number view records d1
-  log_there view records log = subst (λ (k : ℕ). HasLog k view records d1) (sym number1) (log_stays n d0 d1 log01 view records log)
+      more_said began state r0 r2 view view d0 d2 events (all_said ms) ending ending is is.records number aim (log_stays m0 d0 d2 logs_same view is.records is.log) refl refl logs_same (λ point k at. at)
+      (ap (λ (l : List ClientMessage). (map record_message (drop (skipped is.way) is.records) ++ ending) ++ l) (said_all ms ∙ none) ∙ unit _)
+      (ap (λ (r : RelayView). r.meter.sent) same ∙ is.sent) (waits_same r2.meter.waits (ap (λ (r : RelayView). r.meter.waits) same))
+      (λ waits. is.none_yet (sym (ap (λ (r : RelayView). r.meter.waits) same) ∙ waits))
+      (ap talk_of same ∙ ap (λ (l : List ClientMessage). goes_on total0 (all_said l) (talk_of r0)) (sym none)) (moments_on view ending is)
 
   -- the next records were said
-  records_follow : (view next : ViewState) (is : IsSaid began state r0 view d0 events []) → r1.meter.waits ≡ false → GivesRecords r1 r2 view next d2 ms is.records → IsSaid began state r2 next d2 (events ++ (as_heard got ++ all_said ms)) []
+  records_follow : (view next : ViewState) (is : IsSaid began state r0 view d0 events []) → r0.meter.waits ≡ false → GivesRecords r0 r2 view next d2 ms is.records → IsSaid began state r2 next d2 (events ++ all_said ms) []
   records_follow view next is waits gives =
-      more_said began state r0 r2 view next d0 d2 events got ms [] [] is (is.records ++ gives.more) same_number log2 gives.same.1 gives.same.0 log02 (λ point k at. first_append is.records gives.more point k at)
-      said2 (ap (λ (m : Meter). m.total) gives.meter ∙ taken.total) sent2 (ap (λ (m : Meter). m.waits) gives.meter ∙ taken.waits_is) (λ waiting. absurd (let h : r2.meter.waits ≡ false = ap (λ (m : Meter). m.waits) gives.meter ∙ waits in cc (h, waiting)))
-      talk2 moves
+      more_said began state r0 r2 view next d0 d2 events (all_said ms) [] [] is (is.records ++ gives.more) number aim gives.log gives.same.1 gives.same.0 logs_same (λ point k at. first_append is.records gives.more point k at)
+      said2 sent2 (waits_same r2.meter.waits (ap (λ (m : Meter). m.waits) gives.meter)) (λ waiting. absurd (let h : r2.meter.waits ≡ false = ap (λ (m : Meter). m.waits) gives.meter ∙ waits in cc (h, waiting)))
+      talk2 (moments_on view [] is)
     where
-      log2 : HasLog n next (is.records ++ gives.more) d2
-      log2 = subst (λ (k : ℕ). HasLog k next (is.records ++ gives.more) d2) number1 gives.log
-
-      said2 : (map record_message (drop (skipped is.way) is.records) ++ []) ++ ms ≡ map record_message (drop (skipped is.way) (is.records ++ gives.more)) ++ []
-      said2 = ap (λ (l : List ClientMessage). l ++ ms) (unit _) ∙ (ap (λ (l : List ClientMessage). map record_message (drop (skipped is.way) is.records) ++ l) gives.messages_are
-          ∙ (sym (drop_more (skipped is.way) is.records gives.more (skipped_within state n d0 is.records is.way is.is_way)) ∙ sym (unit _)))
+      said2 : (map record_message (drop (skipped is.way) is.records) ++ []) ++ said (all_said ms) ≡ map record_message (drop (skipped is.way) (is.records ++ gives.more)) ++ []
+      said2 = ap (λ (l : List ClientMessage). l ++ said (all_said ms)) (unit _) ∙ (ap (λ (l : List ClientMessage). map record_message (drop (skipped is.way) is.records) ++ l) (said_all ms ∙ gives.messages_are)
+          ∙ (sym (drop_more (skipped is.way) is.records gives.more (skipped_within state m0 d0 is.records is.way is.is_way)) ∙ sym (unit _)))
 
       small : elapsed (is.records ++ gives.more) < 2 ^ 63
-      small = log2.behind.begins.time
+      small = gives.log.behind.begins.time
 
-      sum : min (r1.meter.sent + elapsed gives.more) (2 ^ 64 - 1) ≡ r1.meter.sent + elapsed gives.more
-      sum = least (r1.meter.sent + elapsed gives.more) (let a = elapsed-append is.records gives.more in let b = sent1 in let c = is.sent in let d = small in omega (arith, a, b, c, d))
+      sum : min (r0.meter.sent + elapsed gives.more) (2 ^ 64 - 1) ≡ r0.meter.sent + elapsed gives.more
+      sum = least (r0.meter.sent + elapsed gives.more) (let a = elapsed-append is.records gives.more in let c = is.sent in let d = small in omega (arith, a, c, d))
         where
           least : (k : ℕ) → k < 2 ^ 63 → min k (2 ^ 64 - 1) ≡ k
           least k less = omega (arith, less)
 
       sent2 : r2.meter.sent ≡ elapsed (is.records ++ gives.more)
-      sent2 = ap (λ (m : Meter). m.sent) gives.meter ∙ (sum ∙ (let a = elapsed-append is.records gives.more in let b = sent1 in let c = is.sent in omega (arith, a, b, c)))
+      sent2 = ap (λ (m : Meter). m.sent) gives.meter ∙ (sum ∙ (let a = elapsed-append is.records gives.more in let c = is.sent in omega (arith, a, c)))
 
-      talk2 : talk_of r2 ≡ goes_on r0.meter.total (all_said ms) (hears_any r0.meter.total got (talk_of r0))
-      talk2 = ap (λ (k : KeepingView). talk_by k r2.meter) same12.1 ∙ (ap (λ (m : Meter). talk_by r1.keeping m) gives.meter
-          ∙ (same_sent (talk_of r1) (min (r1.meter.sent + elapsed gives.more) (2 ^ 64 - 1)) (r1.meter.sent + elapsed gives.more) sum
-          ∙ (sym (records_said r0.meter.total gives.more (talk_of r1) (all_behind is.records gives.more log2.behind.begins.valid))
-          ∙ (ap (λ (l : List ClientMessage). goes_on r0.meter.total (all_said l) (talk_of r1)) (sym gives.messages_are)
-          ∙ ap (goes_on r0.meter.total (all_said ms)) taken.talk_is))))
+      talk2 : talk_of r2 ≡ goes_on total0 (all_said ms) (talk_of r0)
+      talk2 = ap (λ (k : KeepingView). talk_by k r2.meter) keeping ∙ (ap (λ (m : Meter). talk_by r0.keeping m) gives.meter
+          ∙ (same_sent (talk_of r0) (min (r0.meter.sent + elapsed gives.more) (2 ^ 64 - 1)) (r0.meter.sent + elapsed gives.more) sum
+          ∙ (sym (records_said total0 gives.more (talk_of r0) (all_behind is.records gives.more gives.log.behind.begins.valid))
+          ∙ ap (λ (l : List ClientMessage). goes_on total0 (all_said l) (talk_of r0)) (sym gives.messages_are))))
 
   -- the exit was said
-  exit_follows : (view next : ViewState) (is : IsSaid began state r0 view d0 events []) → r1.meter.waits ≡ false → GivesExit r1 r2 view next d2 ms is.records → IsAllSaid began state r2 d2 (events ++ (as_heard got ++ all_said ms))
+  exit_follows : (view next : ViewState) (is : IsSaid began state r0 view d0 events []) → r0.meter.waits ≡ false → GivesExit r0 r2 view next d2 ms is.records → IsAllSaid began state r2 d2 (events ++ all_said ms)
   unfolding more_said
   exit_follows view next is waits gives = record {
     view = next;
     exit = gives.exit;
-    is = more_said began state r0 r2 view next d0 d2 events got ms [] (exit_message gives.exit ∷ []) is is.records same_number log2 gives.same.1 gives.same.0 log02 (λ point k at. at)
-        (ap (λ (l : List ClientMessage). l ++ ms) (unit _) ∙ ap (λ (l : List ClientMessage). map record_message (drop (skipped is.way) is.records) ++ l) gives.messages_are)
-        (ap (λ (m : Meter). m.total) gives.meter ∙ taken.total) (ap (λ (m : Meter). m.sent) gives.meter ∙ (sent1 ∙ is.sent)) (ap (λ (m : Meter). m.waits) gives.meter ∙ taken.waits_is)
+    is = more_said began state r0 r2 view next d0 d2 events (all_said ms) [] (exit_message gives.exit ∷ []) is is.records number aim gives.log gives.same.1 gives.same.0 logs_same (λ point k at. at)
+        (ap (λ (l : List ClientMessage). l ++ said (all_said ms)) (unit _) ∙ ap (λ (l : List ClientMessage). map record_message (drop (skipped is.way) is.records) ++ l) (said_all ms ∙ gives.messages_are))
+        (ap (λ (m : Meter). m.sent) gives.meter ∙ is.sent) (waits_same r2.meter.waits (ap (λ (m : Meter). m.waits) gives.meter))
         (λ waiting. absurd (let h : r2.meter.waits ≡ false = ap (λ (m : Meter). m.waits) gives.meter ∙ waits in cc (h, waiting)))
-        talk2 moves;
-    whole = gives.whole;
-    exit_is = ap (λ (k : ℕ). exit_of (committed_text k next.body d2 ExitPart)) (same_number ∙ sym number1) ∙ (ap (λ (b : Body). exit_of (committed_text r1.number b d2 ExitPart)) gives.same.1 ∙ gives.exit_is);
+        talk2 (moments_on view [] is);
+    all_read = gives.whole;
+    exit_is = ap (λ (k : ℕ). exit_of (committed_text k next.body d2 ExitPart)) number ∙ (ap (λ (b : Body). exit_of (committed_text r0.number b d2 ExitPart)) gives.same.1 ∙ gives.exit_is);
     heard_id = ap (λ (m : Meter). m.waits) gives.meter ∙ waits;
   }
     where
-      log2 : HasLog n next is.records d2
-      log2 = subst (λ (k : ℕ). HasLog k next is.records d2) number1 gives.log
+      talk2 : talk_of r2 ≡ goes_on total0 (all_said ms) (talk_of r0)
+      talk2 = ap (λ (k : KeepingView). talk_by k r2.meter) keeping ∙ (ap (λ (m : Meter). talk_by r0.keeping m) gives.meter
+          ∙ ap (λ (l : List ClientMessage). goes_on total0 (all_said l) (talk_of r0)) (sym gives.messages_are))
 
-      talk2 : talk_of r2 ≡ goes_on r0.meter.total (all_said ms) (hears_any r0.meter.total got (talk_of r0))
-      talk2 = ap (λ (k : KeepingView). talk_by k r2.meter) same12.1 ∙ (ap (λ (m : Meter). talk_by r1.keeping m) gives.meter
-          ∙ (ap (λ (t : Talk). let u : Talk = record t { ended = true } in u) taken.talk_is
-          ∙ ap (λ (l : List ClientMessage). goes_on r0.meter.total (all_said l) (hears_any r0.meter.total got (talk_of r0))) (sym gives.messages_are)))
+  follows : (view next : ViewState) (is : IsSaid began state r0 view d0 events []) → r0.meter.waits ≡ false → GivesRecords r0 r2 view next d2 ms is.records ⊎ GivesExit r0 r2 view next d2 ms is.records
+      → TalksAt began state r2 d2 (events ++ all_said ms) r2.at
+  follows view next is waits (inl gives) = subst (TalksAt began state r2 d2 (events ++ all_said ms)) (sym gives.at) (records_follow view next is waits gives)
+  follows view next is waits (inr gives) = subst (TalksAt began state r2 d2 (events ++ all_said ms)) (sym gives.at) (exit_follows view next is waits gives)
 
-  follows : (view next : ViewState) (is : IsSaid began state r0 view d0 events []) → r1.meter.waits ≡ false → GivesRecords r1 r2 view next d2 ms is.records ⊎ GivesExit r1 r2 view next d2 ms is.records
-      → TalksAt began state r2 d2 (events ++ (as_heard got ++ all_said ms)) r2.at
-  follows view next is waits (inl gives) = subst (TalksAt began state r2 d2 (events ++ (as_heard got ++ all_said ms))) (sym gives.at) (records_follow view next is waits gives)
-  follows view next is waits (inr gives) = subst (TalksAt began state r2 d2 (events ++ (as_heard got ++ all_said ms))) (sym gives.at) (exit_follows view next is waits gives)
-
-  at_follows : (p : Place) → r0.at ≡ p → IsStarted p → TalksAt began state r0 d0 events p → Answers r1 r2 d1 d2 ms → TalksAt began state r2 d2 (events ++ (as_heard got ++ all_said ms)) r2.at
+  at_follows : (p : Place) → r0.at ≡ p → IsStarted p → TalksAt began state r0 d0 events p → Answers r0 r2 d0 d2 ms → TalksAt began state r2 d2 (events ++ all_said ms) r2.at
   unfolding quiet_said more_said
   at_follows places.Idle at started talks answers = absurd started
-  at_follows places.Starts at started talks answers = absurd started
-  at_follows (places.Sends view) at started talks (inl (quiet, none, same)) =
-      subst (TalksAt began state r2 d2 (events ++ (as_heard got ++ all_said ms))) (sym (ap (λ (r : RelayView). r.at) same ∙ (same01.at ∙ at))) (quiet_said view [] talks none same)
+  at_follows (places.Starts view) at started talks answers = absurd started
+  at_follows (places.Sends view) at started talks (inl (none, same)) =
+      subst (TalksAt began state r2 d2 (events ++ all_said ms)) (sym (ap (λ (r : RelayView). r.at) same ∙ at)) (quiet_said view [] talks none same)
   at_follows (places.Sends view) at started talks (inr (other, next, there, waits, gives)) =
-      let one : other ≡ view = same_view other view r1.at there (same01.at ∙ at) in
+      let one : other ≡ view = same_view other view r0.at there at in
       follows view next talks waits
-      (subst (λ (v : ViewState). GivesRecords r1 r2 v next d2 ms talks.records ⊎ GivesExit r1 r2 v next d2 ms talks.records) one
-      (gives talks.records (subst (λ (v : ViewState). HasLog r1.number v talks.records d1) (sym one) (log_there view talks.records talks.log))))
-  at_follows places.Over at started talks (inl (quiet, none, same)) =
-      subst (TalksAt began state r2 d2 (events ++ (as_heard got ++ all_said ms))) (sym (ap (λ (r : RelayView). r.at) same ∙ (same01.at ∙ at))) (record {
+      (subst (λ (v : ViewState). GivesRecords r0 r2 v next d2 ms talks.records ⊎ GivesExit r0 r2 v next d2 ms talks.records) one
+      (gives talks.records (subst (λ (v : ViewState). HasLog r0.number v talks.records d0) (sym one) talks.log)))
+  at_follows places.Over at started talks (inl (none, same)) =
+      subst (TalksAt began state r2 d2 (events ++ all_said ms)) (sym (ap (λ (r : RelayView). r.at) same ∙ at)) (record {
         view = talks.view;
         exit = talks.exit;
         is = quiet_said talks.view (exit_message talks.exit ∷ []) talks.is none same;
-        whole = whole_stays n d0 d2 log02 talks.view talks.is.records talks.is.log.number talks.whole;
-        exit_is = ap (λ (k : ℕ). exit_of (committed_text k talks.view.body d2 ExitPart)) same_number ∙ (ap exit_of (text_stays n d0 d2 log02 talks.view.body ExitPart) ∙ talks.exit_is);
-        heard_id = ap (λ (r : RelayView). r.meter.waits) same ∙ (taken.waits_is ∙ still got talks.heard_id);
+        all_read = whole_stays m0 d0 d2 logs_same talks.view talks.is.records talks.is.log.number talks.all_read;
+        exit_is = ap (λ (k : ℕ). exit_of (committed_text k talks.view.body d2 ExitPart)) number ∙ (ap exit_of (text_stays m0 d0 d2 logs_same talks.view.body ExitPart) ∙ talks.exit_is);
+        heard_id = ap (λ (r : RelayView). r.meter.waits) same ∙ talks.heard_id;
       })
-    where
-      still : (g : Option ServerMessage) → r0.meter.waits ≡ false → waits_after g r0.meter.waits ≡ false
-      still None e = e
-      still (Some m) e = ap (λ (b : Bool). b && not (is_id m)) e
-  at_follows places.Over at started talks (inr (other, next, there, waits, gives)) = absurd (let h : places.Over ≡ places.Sends other = sym (same01.at ∙ at) ∙ there in cc (h))
+  at_follows places.Over at started talks (inr (other, next, there, waits, gives)) = absurd (let h : places.Over ≡ places.Sends other = sym at ∙ there in cc (h))
 
-  none_long : (l : List ClientMessage) → l ≡ [] → length l ≤ 1
-  none_long l none = let h : length l ≡ 0 = ap length none in omega (arith, h)
+  none_long : ms ≡ [] → length ms ≤ 1
+  none_long none = let h : length ms ≡ 0 = ap length none in omega (arith, h)
 
-  one_piece : (view next : ViewState) (records : List Record) → GivesRecords r1 r2 view next d2 ms records ⊎ GivesExit r1 r2 view next d2 ms records → IsPiece ms
+  one_piece : (view next : ViewState) (records : List Record) → GivesRecords r0 r2 view next d2 ms records ⊎ GivesExit r0 r2 view next d2 ms records → IsPiece ms
   one_piece view next records (inl gives) = inr (gives.more, gives.messages_are, gives.piece)
   one_piece view next records (inr gives) = inl (let h : length ms ≡ 1 = ap length gives.messages_are in omega (arith, h))
 
-  piece_at : (p : Place) → r0.at ≡ p → IsStarted p → TalksAt began state r0 d0 events p → Answers r1 r2 d1 d2 ms → IsPiece ms
+  piece_at : (p : Place) → r0.at ≡ p → IsStarted p → TalksAt began state r0 d0 events p → Answers r0 r2 d0 d2 ms → IsPiece ms
   piece_at places.Idle at started talks answers = absurd started
-  piece_at places.Starts at started talks answers = absurd started
-  piece_at (places.Sends view) at started talks (inl (quiet, none, same)) = inl (none_long ms none)
+  piece_at (places.Starts view) at started talks answers = absurd started
+  piece_at (places.Sends view) at started talks (inl (none, same)) = inl (none_long none)
   piece_at (places.Sends view) at started talks (inr (other, next, there, waits, gives)) =
-      let one : other ≡ view = same_view other view r1.at there (same01.at ∙ at) in
-      one_piece other next talks.records (gives talks.records (subst (λ (v : ViewState). HasLog r1.number v talks.records d1) (sym one) (log_there view talks.records talks.log)))
-  piece_at places.Over at started talks (inl (quiet, none, same)) = inl (none_long ms none)
-  piece_at places.Over at started talks (inr (other, next, there, waits, gives)) = absurd (let h : places.Over ≡ places.Sends other = sym (same01.at ∙ at) ∙ there in cc (h))
+      let one : other ≡ view = same_view other view r0.at there at in
+      one_piece other next talks.records (gives talks.records (subst (λ (v : ViewState). HasLog r0.number v talks.records d0) (sym one) talks.log))
+  piece_at places.Over at started talks (inl (none, same)) = inl (none_long none)
+  piece_at places.Over at started talks (inr (other, next, there, waits, gives)) = absurd (let h : places.Over ≡ places.Sends other = sym at ∙ there in cc (h))
 
-  -- what a step says is a piece of the log
-  pub step_piece : IsStarted r0.at → Talks began state r0 d0 events → Answers r1 r2 d1 d2 ms → IsPiece ms
-  step_piece started talks answers = piece_at r0.at refl started talks.at answers
+  -- what is said is a piece of the log
+  pub said_piece : IsStarted r0.at → Talks began state r0 d0 events → Answers r0 r2 d0 d2 ms → IsPiece ms
+  said_piece started talks answers = piece_at r0.at refl started talks.at answers
 
-  -- so a step goes on
-  pub step_talks : IsStarted r0.at → Talks began state r0 d0 events → Answers r1 r2 d1 d2 ms → Stands r2 d2 → r2.keeping.broken ≡ false → Talks began state r2 d2 (events ++ (as_heard got ++ all_said ms))
-  step_talks started talks answers stands whole = record {
-    whole = whole;
+  pub said_talks : IsStarted r0.at → Talks began state r0 d0 events → Answers r0 r2 d0 d2 ms → Stands r2 d2 → Talks began state r2 d2 (events ++ all_said ms)
+  said_talks started talks answers stands = record {
+    whole = ap (λ (k : KeepingView). k.broken) keeping ∙ talks.whole;
     stands = stands;
-    durable = subst (λ (k : ℕ). IsDurable k (state_of r2) d2) (sym same_number) (subst (λ (s : State). IsDurable n s d2) (ap (λ (k : KeepingView). k.state) (sym same12.1)) (reads_durable n (state_of r1) d1 d2 durable1 reads));
+    durable = subst (λ (k : ℕ). IsDurable k (aim_of r2) (state_of r2) d2) (sym number) (subst (λ (k : KeepingView). IsDurable m0 k.aim k.state d2) (sym keeping) (reads_durable m0 (aim_of r0) (state_of r0) d0 d2 durable0 reads));
     at = at_follows r0.at refl started talks.at answers;
   }

@@ -199,17 +199,17 @@ none_prefix xs = (xs, refl)
 module _ (began : DiskView) (state : State) (relay : RelayView) (disk : DiskView) (events : List Event) (stored : Stored) (head : Head) (text : List ℕ) (exit : Exit) (holds : Replays disk.reads relay.number (Some stored)) (head_ok : head_of stored.head ≡ Ok head) (some : stored.exit ≡ Some text) (exit_ok : exit_of text ≡ Ok exit) where
   over_whole : IsAllSaid began state relay disk events → said events ≡ may_say (begins_at stored.records head (Some exit) state) (heard events)
   over_whole all = ends_whole began state relay all.view disk events stored head exit holds head_ok (exit_message all.exit ∷ []) all.is all.exit refl
-      (exit_is relay.number all.view all.is.records disk all.is.log stored holds text exit all.exit some exit_ok all.exit_is) all.whole all.heard_id
+      (exit_is relay.number all.view all.is.records disk all.is.log stored holds text exit all.exit some exit_ok all.exit_is) all.all_read all.heard_id
 
   part_at : (p : Place) → TalksAt began state relay disk events p → IsStartOf (said events) (may_say (begins_at stored.records head (Some exit) state) (heard events))
   part_at places.Idle at = absurd at
-  part_at places.Starts at = subst (λ (es : List Event). IsStartOf (said es) (may_say (begins_at stored.records head (Some exit) state) (heard es))) (sym at.none) (none_prefix _)
+  part_at (places.Starts view) at = subst (λ (es : List Event). IsStartOf (said es) (may_say (begins_at stored.records head (Some exit) state) (heard es))) (sym at.none) (none_prefix _)
   part_at (places.Sends view) at = sends_part began state relay view disk events stored head exit holds head_ok [] at refl
   part_at places.Over at = subst (IsStartOf (said events)) (over_whole at) (prefix_self (said events))
 
   whole_at : (p : Place) → TalksAt began state relay disk events p → IsQuietAt relay.meter.waits p → said events ≡ may_say (begins_at stored.records head (Some exit) state) (heard events)
   whole_at places.Idle at quiet = absurd at
-  whole_at places.Starts at quiet = absurd quiet
+  whole_at (places.Starts view) at quiet = absurd quiet
   whole_at (places.Sends view) at quiet = sends_whole began state relay view disk events stored head exit holds head_ok [] at refl quiet
   whole_at places.Over at quiet = over_whole at
 

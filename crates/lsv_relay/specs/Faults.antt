@@ -1,18 +1,24 @@
 -- The faults of a relay's calls, and why they come.
-use Rattle.std.specs.Prelude.{◌≡◌, ◌≢◌, ◌⊎◌, ℕ, true, false, None}
+use Rattle.std.specs.Prelude.{◌≡◌, ◌≢◌, ◌⊎◌, ℕ, true, false, List, None, Ok}
 use Rattle.lsv_bundle.specs.declared.fault.BundleFault.{BundleFault}
 use Rattle.lsv_bundle.specs.declared.fault.BundleFault.TheVariants as kept
 use Rattle.lsv_disk.specs.View.{DiskView, Image}
 use Rattle.lsv_iolog.specs.Damage.{IsViewDamage}
+use Rattle.lsv_disk.specs.declared.file.Part.TheVariants.{Exit as ExitPart}
+use Rattle.lsv_info.specs.Reading.{exit_of}
+use Rattle.lsv_info.specs.declared.times.Exit.{Exit}
+use Rattle.lsv_iolog.specs.Reading.{IsFaultBehind, IsWhole, ViewState, committed_laid, committed_text}
 use Rattle.lsv_iolog.specs.Recovered.{Replays}
 use Rattle.lsv_iolog.specs.declared.fault.ViewFault.{ViewFault}
 use Rattle.lsv_iolog.specs.declared.fault.ViewFault.TheVariants as reads
 use Rattle.lsv_kept.specs.Kept.{IsStateDamage}
-use Rattle.lsv_kept.specs.Value.{is_done}
+use Rattle.lsv_record.specs.declared.records.Record.{Record}
 use Rattle.lsv_relay.specs.Complete.{IsComplete, IsIncomplete, IsLogDamage, IsUnreadable}
+use Rattle.lsv_relay.specs.Talks.{HasLog}
 use Rattle.lsv_relay.specs.Value.{RelayView, is_broken, state_of}
 use Rattle.lsv_relay.specs.declared.fault.RelayFault.{RelayFault}
 use Rattle.lsv_relay.specs.declared.fault.RelayFault.TheVariants as faults
+use Rattle.lsv_relay.specs.declared.relay.Place.{Place}
 use Rattle.lsv_relay.specs.declared.relay.Place.TheVariants as places
 
 -- ---- A lower fault as one of the relay
@@ -74,15 +80,22 @@ IsStateFault (faults.State (kept.Full part)) = ⊥
 IsStateFault (faults.State kept.NoMem) = ⊥
 IsStateFault faults.NoMem = Unit {0}
 
--- ---- What a step leaves that failed
+-- the same of a relay that may be broken
+abbrev pub IsKeepFault : RelayFault → Type 0
+IsKeepFault faults.Incomplete = ⊥
+IsKeepFault (faults.Log fault) = ⊥
+IsKeepFault (faults.State fault) = Unit {0}
+IsKeepFault faults.NoMem = Unit {0}
 
--- the relay is whole, and of a log that wasn't relayed it doesn't say that it is; not all had been handed out
+-- ---- What a call leaves that failed
+
+-- the relay is whole, with what it kept, and not all had been handed out
 pub record LeavesWhole (old new : RelayView) : Type 0 where
   pub whole : is_broken new ≡ false
-  pub undone : is_done (state_of old) ≡ false → is_done (state_of new) ≡ false
+  pub same : state_of new ≡ state_of old
   pub before : old.at ≢ places.Over
 
--- a fault of the log leaves the relay whole. One of what is kept leaves it broken, and Broken comes only of a broken one
+-- a fault of the log leaves the relay so. One of what is kept leaves it broken, and Broken comes only of a broken one
 abbrev pub IsStepFault : (old new : RelayView) → RelayFault → Type 0
 IsStepFault old new faults.Incomplete = LeavesWhole old new
 IsStepFault old new (faults.Log fault) = IsReadFault fault × LeavesWhole old new
@@ -109,6 +122,20 @@ IsOpenCause n image (faults.State (kept.Full part)) = ⊥
 IsOpenCause n image (faults.State kept.NoMem) = ⊥
 IsOpenCause n image faults.NoMem = Unit {0}
 
+-- the same of a log that isn't marked as relayed
+abbrev pub IsUndoneCause : (n : ℕ) → Image → RelayFault → Type 0
+IsUndoneCause n image faults.Incomplete = IsIncomplete n image
+IsUndoneCause n image (faults.Log reads.Absent) = Replays image n None
+IsUndoneCause n image (faults.Log (reads.Damaged part)) = IsViewDamage n part image
+IsUndoneCause n image (faults.Log reads.Disk) = Unit {0}
+IsUndoneCause n image (faults.Log reads.NoMem) = ⊥
+IsUndoneCause n image (faults.State kept.Disk) = IsComplete n image
+IsUndoneCause n image (faults.State kept.Broken) = ⊥
+IsUndoneCause n image (faults.State (kept.Damaged part)) = IsComplete n image × IsStateDamage n part image
+IsUndoneCause n image (faults.State (kept.Full part)) = ⊥
+IsUndoneCause n image (faults.State kept.NoMem) = ⊥
+IsUndoneCause n image faults.NoMem = Unit {0}
+
 -- of reading the log: log n is incomplete, absent or damaged, as its files read; that a device call failed is said by its count
 abbrev pub IsLogCause : (n : ℕ) → DiskView → RelayFault → Type 0
 IsLogCause n disk faults.Incomplete = IsIncomplete n disk.reads
@@ -119,12 +146,21 @@ IsLogCause n disk (faults.Log reads.NoMem) = Unit {0}
 IsLogCause n disk (faults.State fault) = Unit {0}
 IsLogCause n disk faults.NoMem = Unit {0}
 
--- the same once the log was opened: its records or its exit are damaged
-abbrev pub IsReadCause : (n : ℕ) → DiskView → RelayFault → Type 0
-IsReadCause n disk faults.Incomplete = ⊥
-IsReadCause n disk (faults.Log reads.Absent) = ⊥
-IsReadCause n disk (faults.Log (reads.Damaged part)) = IsLogDamage n part disk
-IsReadCause n disk (faults.Log reads.Disk) = Unit {0}
-IsReadCause n disk (faults.Log reads.NoMem) = Unit {0}
-IsReadCause n disk (faults.State fault) = Unit {0}
-IsReadCause n disk faults.NoMem = Unit {0}
+-- the same once these records were read: this part is at fault after them, or they are all, and the exit is none
+abbrev pub IsReadCause : (n : ℕ) (view : ViewState) (records : List Record) → DiskView → RelayFault → Type 0
+IsReadCause n view records disk faults.Incomplete = ⊥
+IsReadCause n view records disk (faults.Log reads.Absent) = ⊥
+IsReadCause n view records disk (faults.Log (reads.Damaged part)) =
+    IsFaultBehind (committed_laid n view.body disk) view.body records part
+    ⊎ ((part ≡ ExitPart) × IsWhole view records disk × ((exit : Exit) → exit_of (committed_text n view.body disk ExitPart) ≡ Ok exit → ⊥))
+IsReadCause n view records disk (faults.Log reads.Disk) = Unit {0}
+IsReadCause n view records disk (faults.Log reads.NoMem) = Unit {0}
+IsReadCause n view records disk (faults.State fault) = Unit {0}
+IsReadCause n view records disk faults.NoMem = Unit {0}
+
+-- of a connection that is so far: while it begins, records are passed over; then each fault comes after all records that were handed out
+abbrev pub IsCauseAt : (n : ℕ) → Place → DiskView → RelayFault → Type 0
+IsCauseAt n places.Idle disk fault = Unit {0}
+IsCauseAt n (places.Starts view) disk fault = IsLogCause n disk fault
+IsCauseAt n (places.Sends view) disk fault = (records : List Record) → HasLog n view records disk → IsReadCause n view records disk fault
+IsCauseAt n places.Over disk fault = Unit {0}

@@ -1,5 +1,5 @@
 -- What only the proofs need of a relay's steps.
-use Rattle.std.specs.Prelude.{◌≡◌, ◌⊎◌, ◌+◌, ◌-◌, ◌^◌, min, ◌++◌, ◌∷◌, ℕ, Bool, true, false, not, List, [], length, map, Ok}
+use Rattle.std.specs.Prelude.{◌≡◌, ◌⊎◌, ◌+◌, ◌-◌, ◌<◌, ◌^◌, min, ◌++◌, ◌∷◌, ℕ, Bool, true, false, not, if◌then◌else◌, List, [], length, map, Ok}
 use Rattle.lsv_disk.specs.View.{DiskView}
 use Rattle.lsv_disk.specs.declared.file.Part.TheVariants.{Exit as ExitPart}
 use Rattle.lsv_info.specs.Reading.{exit_of}
@@ -12,7 +12,9 @@ use Rattle.lsv_request.specs.Stored.{exit_message, record_message}
 use Rattle.lsv_transcript.specs.Reading.{ArePiece}
 use Rattle.lsv_relay.specs.Talk.{Talk, begun}
 use Rattle.lsv_relay.specs.Talks.{HasLog, IsWay, Way, opening_of, resumes, sent_before, skipped}
-use Rattle.lsv_relay.specs.Value.{IsQuiet, RelayView, is_broken, state_of, talk_of}
+use Rattle.lsv_kept.specs.Value.{is_done, keeps_id}
+use Rattle.lsv_kept.specs.declared.state.State.{State}
+use Rattle.lsv_relay.specs.Value.{IsUnbegun, RelayView, aim_of, is_broken, state_of, talk_of}
 use Rattle.lsv_relay.specs.declared.relay.Place.{Place}
 use Rattle.lsv_relay.specs.declared.relay.Place.TheVariants as places
 
@@ -26,7 +28,7 @@ pub record HasStarted (old new : RelayView) (opening : List ClientMessage) (disk
   pub passed : length records ≡ skipped way
   pub at : new.at ≡ places.Sends view
   pub opening_is : opening ≡ opening_of way view.head
-  pub total : new.meter.total ≡ view.body.elapsed
+  pub total : (aim_of new).total ≡ view.body.elapsed
   pub waits : new.meter.waits ≡ not (resumes way)
   pub talk_is : talk_of new ≡ begun (state_of old) (resumes way) (sent_before way)
 
@@ -55,35 +57,56 @@ pub record GivesExit (old new : RelayView) (view next : ViewState) (after : Disk
 pub record HasTaken (old new : RelayView) (talk : Talk) (waits : Bool) : Type 0 where
   pub talk_is : talk_of new ≡ talk
   pub waits_is : new.meter.waits ≡ waits
-  pub total : new.meter.total ≡ old.meter.total
   pub whole : is_broken new ≡ false
 
--- of the same log, and the transcript stands where it stood
+-- of the same log and aim, and the transcript stands where it stood
 pub record IsSamePlace (old new : RelayView) : Type 0 where
   pub number : new.number ≡ old.number
+  pub aim : aim_of new ≡ aim_of old
   pub at : new.at ≡ old.at
 
 -- records are still sent
 abbrev pub IsSending : Place → Type 0
 IsSending places.Idle = ⊥
-IsSending places.Starts = ⊥
+IsSending (places.Starts view) = ⊥
 IsSending (places.Sends view) = Unit {0}
 IsSending places.Over = ⊥
 
--- the log that is read has this number, and its exit wasn't handed out
-abbrev pub IsLogOf : ℕ → (ended : Bool) → Place → Type 0
-IsLogOf n ended places.Idle = Unit {0}
-IsLogOf n ended places.Starts = Unit {0}
-IsLogOf n ended (places.Sends view) = (view.number ≡ n) × (ended ≡ false)
-IsLogOf n ended places.Over = Unit {0}
+-- the log that is read has this number, and this elapsed time if it was just opened; and the exit wasn't handed out
+abbrev pub IsLogOf : (n total : ℕ) (ended : Bool) → Place → Type 0
+IsLogOf n total ended places.Idle = Unit {0}
+IsLogOf n total ended (places.Starts view) = (view.number ≡ n) × (view.body.elapsed ≡ total) × (ended ≡ false)
+IsLogOf n total ended (places.Sends view) = (view.number ≡ n) × (ended ≡ false)
+IsLogOf n total ended places.Over = Unit {0}
+
+-- once the other server has the whole time: the exit was said, an identifier is kept, and the time can be kept
+pub record HasWhole (relay : RelayView) : Type 0 where
+  pub known : relay.meter.known ≡ true
+  pub asked : relay.meter.asked ≡ false
+  pub ended : relay.meter.ended ≡ true
+  pub kept : keeps_id (state_of relay) ≡ true
+  pub small : (aim_of relay).total < 2 ^ 63
 
 -- what is kept, and the log that is read, are of the relay's number, and records follow no exit
-abbrev pub IsRelay : RelayView → Type 0
-IsRelay relay = (relay.keeping.number ≡ relay.number) × IsLogOf relay.number relay.meter.ended relay.at
+pub record IsRelay (relay : RelayView) : Type 0 where
+  pub number : relay.keeping.number ≡ relay.number
+  pub log : IsLogOf relay.number (aim_of relay).total relay.meter.ended relay.at
+  pub whole : relay.meter.whole ≡ true → is_broken relay ≡ false → HasWhole relay
 
--- nothing more may be sent yet, and nothing was done; or the next records were read, or the exit
+-- the relaying of this log to this host was opened, and unless the log is relayed its connection may begin
+pub record IsOpenedAs (n : ℕ) (host : List ℕ) (relay : RelayView) : Type 0 where
+  pub number : relay.number ≡ n
+  pub host_is : (aim_of relay).host ≡ host
+  pub whole : is_broken relay ≡ false
+  pub unbegun : is_done (state_of relay) ≡ false → IsUnbegun relay.at
+
+-- a relay of a log that isn't relayed stands at the beginning of it
+abbrev pub first_place : State → ViewState → Place
+first_place state view = if is_done state then places.Idle else places.Starts view
+
+-- nothing was said and done; or the next records were read, or the exit
 abbrev pub Answers : (old new : RelayView) (before after : DiskView) (messages : List ClientMessage) → Type 0
 Answers old new before after messages =
-    (IsQuiet old × (messages ≡ []) × (new ≡ old))
+    ((messages ≡ []) × (new ≡ old))
     ⊎ ((view next : ViewState) × (old.at ≡ places.Sends view) × (old.meter.waits ≡ false)
     × ((records : List Record) → HasLog old.number view records before → GivesRecords old new view next after messages records ⊎ GivesExit old new view next after messages records))

@@ -1,5 +1,5 @@
 -- What becomes of the relaying of a log by what is heard and said on a connection, in order.
-use Rattle.std.specs.Prelude.{◌≡◌, ◌⊎◌, ℕ, ◌+◌, ◌==◌, ◌&&◌, ◌||◌, not, nat_lt, Bool, true, false, if◌then◌else◌, List, [], ◌∷◌, length, Option, Some, None, Result, Ok, Err}
+use Rattle.std.specs.Prelude.{◌≡◌, ◌⊎◌, ℕ, zero, suc, ◌+◌, ◌==◌, ◌&&◌, ◌||◌, not, nat_lt, Bool, true, false, if◌then◌else◌, List, [], ◌∷◌, length, Option, Some, None, Result, Ok, Err}
 use Rattle.lsv_base.specs.Time.{nanos_of}
 use Rattle.lsv_dialogue.specs.Events.{Event, Event.Heard, Event.Late, Event.Said}
 use Rattle.lsv_kept.specs.Value.{is_done, keeps_id, with_point}
@@ -27,10 +27,12 @@ pub record Talk : Type 0 where
   pub sent : ℕ
   -- the exit was said
   pub ended : Bool
+  -- a commit point was the log's elapsed time, and came after the exit was said
+  pub whole : Bool
 
 -- a connection begins with this kept, and goes on with a log after this time, or sends it whole
 abbrev pub begun : State → (resumes : Bool) → (sent : ℕ) → Talk
-begun state resumes sent = record { state = state; known = resumes; asked = resumes; sent = sent; ended = false }
+begun state resumes sent = record { state = state; known = resumes; asked = resumes; sent = sent; ended = false; whole = false }
 
 -- ---- What is said
 
@@ -65,16 +67,17 @@ hears_id id talk =
     if talk.known || nat_lt longest_id (length id) || is_done talk.state then talk
     else record talk { state = states.Kept (record { id = id; point = None }); known = true }
 
--- what a commit point makes of the state: the log is relayed if it is its elapsed time, and the exit was said
-abbrev pub acknowledged : (ended : Bool) → (total c : ℕ) → State → State
-acknowledged ended total c state = if ended && c == total then states.Done else with_point c state
+-- what a commit point makes of the state: it is kept with its identifier. A point of 0 isn't, since it fits any log
+abbrev pub kept_at : ℕ → State → State
+kept_at zero state = state
+kept_at (suc c) state = with_point (suc c) state
 
--- a commit point is kept with its identifier, unless it is above what was sent
+-- a commit point changes nothing if it is above what was sent, if no identifier is kept that it is for, or once the upstream has all
 abbrev pub hears_point : (total : ℕ) → Option ℕ → Talk → Talk
 hears_point total None talk = talk
 hears_point total (Some c) talk =
-    if nat_lt talk.sent c || not talk.known || not (keeps_id talk.state) then talk
-    else record talk { state = acknowledged talk.ended total c talk.state; asked = false }
+    if nat_lt talk.sent c || not talk.known || not (keeps_id talk.state) || talk.whole then talk
+    else record talk { state = kept_at c talk.state; asked = false; whole = talk.ended && c == total }
 
 -- an error after a restart, with no commit point between them, drops what is kept
 abbrev pub hears_error : Talk → Talk
@@ -88,14 +91,9 @@ hears total (server.CommitPoint time) talk = hears_point total (nanos_of time) t
 hears total (server.Error text) talk = hears_error talk
 hears total (server.Abort text) talk = talk
 
--- and if there is no message, nothing changes
-abbrev pub hears_any : (total : ℕ) → Option ServerMessage → Talk → Talk
-hears_any total None talk = talk
-hears_any total (Some m) talk = hears total m talk
-
--- a message that comes too late finds the exit as if it hadn't been said, since it may not have been put: it marks nothing
+-- a message that comes too late finds the exit as if it hadn't been said, since it may not have been put
 abbrev pub hears_late : (total : ℕ) → ServerMessage → Talk → Talk
-hears_late total m talk = hears total m (record talk { ended = false })
+hears_late total m talk = hears total m (record talk { ended = false; whole = false })
 
 -- ---- In order
 

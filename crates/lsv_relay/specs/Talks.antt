@@ -1,5 +1,5 @@
 -- What a relay has said on a connection, by the records that it read of the log, and what was kept at each moment.
-use Rattle.std.specs.Prelude.{◌≡◌, ◌≢◌, ◌⊎◌, ◌↔◌, ◌≤◌, ℕ, ◌+◌, Bool, true, false, not, ◌&&◌, List, [], ◌∷◌, ◌++◌, length, take, drop, map, Option, Some, None, Ok}
+use Rattle.std.specs.Prelude.{◌≡◌, ◌⊎◌, ◌≤◌, ◌<◌, ℕ, ◌+◌, Bool, true, false, not, ◌&&◌, List, [], ◌∷◌, ◌++◌, length, take, drop, map, Some, None, Ok}
 use Rattle.std.specs.List.{list_any}
 use Rattle.lsv_bundle.specs.Committed.{HasEntry}
 use Rattle.lsv_bundle.specs.declared.body.Body.{Body}
@@ -12,8 +12,10 @@ use Rattle.lsv_info.specs.declared.times.Exit.{Exit}
 use Rattle.lsv_info.specs.declared.times.Head.{Head}
 use Rattle.lsv_iolog.specs.Reading.{IsBehind, IsWhole, ViewState, committed_laid, committed_text}
 use Rattle.lsv_iolog.specs.Recovered as logs
-use Rattle.lsv_kept.specs.Kept.{IsOfRelay, IsOneOf, Keeps}
-use Rattle.lsv_kept.specs.Value.{is_done}
+use Rattle.lsv_kept.specs.Aim.{AimView}
+use Rattle.lsv_kept.specs.Kept.{IsOfRelay, Keeps}
+use Rattle.lsv_kept.specs.Value as keeping
+use Rattle.lsv_kept.specs.Value.{keeps_id}
 use Rattle.lsv_kept.specs.declared.state.State.{State}
 use Rattle.lsv_kept.specs.declared.state.State.TheVariants as states
 use Rattle.lsv_msg.specs.declared.messages.ClientMessage.{ClientMessage}
@@ -25,8 +27,8 @@ use Rattle.lsv_record.specs.declared.records.Record.{Record}
 use Rattle.lsv_request.specs.Stored.{exit_message, head_message, record_message}
 use Rattle.lsv_transcript.specs.Reading.{ArePiece}
 use Rattle.lsv_transcript.specs.Transcript.{hello_message, is_id, restart_message}
-use Rattle.lsv_relay.specs.Talk.{Talk, begun, goes_on, hears_any}
-use Rattle.lsv_relay.specs.Value.{IsQuiet, IsQuietAfter, IsStarted, RelayView, Stands, is_broken, state_of, talk_of}
+use Rattle.lsv_relay.specs.Talk.{Talk, begun, goes_on, hears}
+use Rattle.lsv_relay.specs.Value.{RelayView, aim_of, is_broken, state_of, talk_of}
 use Rattle.lsv_relay.specs.declared.relay.Place.{Place}
 use Rattle.lsv_relay.specs.declared.relay.Place.TheVariants as places
 
@@ -76,22 +78,32 @@ IsWay state n disk records Anew = (id : List ℕ) (point : ℕ) → state ≡ st
 abbrev pub states_of : (total : ℕ) → Talk → List Event → ℕ → State
 states_of total talk events j = (goes_on total (take j events) talk).state
 
--- since that disk each crash image of each moment keeps the state after some events, or after one more, or nothing: of more events at later moments
-pub record InOrder (n : ℕ) (began disk : DiskView) (after : ℕ → State) (many : ℕ) : Type 0 where
+-- an identifier is kept in place of another one
+pub record IsReplacing (before after : State) : Type 0 where
+  pub kept : keeps_id before ≡ true
+  pub id : List ℕ
+  pub is : after ≡ states.Kept (record { id = id; point = None })
+
+-- an image keeps the first state or the second one; or nothing, while one identifier replaces another
+abbrev pub IsNext : ℕ → AimView → (before after : State) → Image → Type 0
+IsNext n aim before after image = Keeps n aim image before ⊎ Keeps n aim image after ⊎ (IsReplacing before after × Keeps n aim image states.Nothing)
+
+-- since that disk each crash image of each moment keeps the state after some events; or, while one more is heard, after that: of more events at later moments
+pub record InOrder (n : ℕ) (aim : AimView) (began disk : DiskView) (after : ℕ → State) (many : ℕ) : Type 0 where
   pub frame : Throughout (IsOfRelay n) (λ image. Unit {0}) began disk
   -- the number of events before a moment
   pub place : ℕ → ℕ
   pub order : (k m : ℕ) → k ≤ m → place k ≤ place m
   pub within : (k : ℕ) → place k ≤ many
-  pub each : (k : ℕ) (image : Image) → began.moment ≤ k → k ≤ disk.moment → disk.crash_images_at k image → IsOneOf n (after (place k)) (after (place k + 1)) image
+  pub each : (k : ℕ) (image : Image) → began.moment ≤ k → k ≤ disk.moment → disk.crash_images_at k image → Keeps n aim image (after (place k)) ⊎ ((place k < many) × IsNext n aim (after (place k)) (after (place k + 1)) image)
 
 -- a crash leaves what is kept
-abbrev pub IsDurable : ℕ → State → DiskView → Type 0
-IsDurable n state disk = (image : Image) → IsCrashImage disk image → Keeps n image state
+abbrev pub IsDurable : ℕ → AimView → State → DiskView → Type 0
+IsDurable n aim state disk = (image : Image) → IsCrashImage disk image → Keeps n aim image state
 
--- if a crash left the first state before, the image keeps this or the other one, or nothing
-abbrev pub KeepsOneOf : ℕ → State → State → DiskView → Image → Type 0
-KeepsOneOf n before after disk image = IsDurable n before disk → IsOneOf n before after image
+-- if a crash left the first state before, the image keeps this or the other one, or nothing while one identifier replaces another
+abbrev pub KeepsOneOf : ℕ → AimView → State → State → DiskView → Image → Type 0
+KeepsOneOf n aim before after disk image = IsDurable n aim before disk → IsNext n aim before after image
 
 -- ---- What was said
 
@@ -103,26 +115,39 @@ pub record HasLog (n : ℕ) (view : ViewState) (records : List Record) (disk : D
   pub head : head_of (committed_text n view.body disk HeadPart) ≡ Ok view.head
   pub behind : IsBehind view records disk
 
+-- a log that was opened, and of which nothing was handed out, is there as it was read
+abbrev pub IsOpened : ℕ → Place → DiskView → Type 0
+IsOpened n places.Idle disk = Unit {0}
+IsOpened n (places.Starts view) disk = HasLog n view [] disk
+IsOpened n (places.Sends view) disk = Unit {0}
+IsOpened n places.Over disk = Unit {0}
+
+-- what is kept stands on the disk, and so does the log that was opened
+pub record Stands (relay : RelayView) (disk : DiskView) : Type 0 where
+  pub kept : keeping.Stands relay.keeping disk
+  pub log : IsOpened relay.number relay.at disk
+
 -- the log as its files read, and what was said of it: the opening, the records that were read after those passed over, and this ending
 pub record IsSaid (began : DiskView) (state : State) (relay : RelayView) (view : ViewState) (disk : DiskView) (events : List Event) (ending : List ClientMessage) : Type 0 where
   pub records : List Record
   pub log : HasLog relay.number view records disk
   pub way : Way
   pub is_way : IsWay state relay.number disk records way
-  pub total : relay.meter.total ≡ view.body.elapsed
   pub sent : relay.meter.sent ≡ elapsed records
   pub said_is : said events ≡ opening_of way view.head ++ (map record_message (drop (skipped way) records) ++ ending)
   pub waits : relay.meter.waits ≡ (not (resumes way) && not (list_any is_id (heard events)))
   pub none_yet : relay.meter.waits ≡ true → records ≡ []
-  pub talk_is : talk_of relay ≡ goes_on view.body.elapsed events (begun state (resumes way) (sent_before way))
-  pub moments : InOrder relay.number began disk (states_of view.body.elapsed (begun state (resumes way) (sent_before way)) events) (length events)
+  -- of the log's whole elapsed time
+  pub total : (aim_of relay).total ≡ view.body.elapsed
+  pub talk_is : talk_of relay ≡ goes_on (aim_of relay).total events (begun state (resumes way) (sent_before way))
+  pub moments : InOrder relay.number (aim_of relay) began disk (states_of (aim_of relay).total (begun state (resumes way) (sent_before way)) events) (length events)
 
 -- all of the log was said, and its exit
 pub record IsAllSaid (began : DiskView) (state : State) (relay : RelayView) (disk : DiskView) (events : List Event) : Type 0 where
   pub view : ViewState
   pub exit : Exit
   pub is : IsSaid began state relay view disk events (exit_message exit ∷ [])
-  pub whole : IsWhole view is.records disk
+  pub all_read : IsWhole view is.records disk
   pub exit_is : exit_of (committed_text relay.number view.body disk ExitPart) ≡ Ok exit
   pub heard_id : relay.meter.waits ≡ false
 
@@ -130,48 +155,37 @@ pub record IsAllSaid (began : DiskView) (state : State) (relay : RelayView) (dis
 pub record IsUnsaid (began : DiskView) (state : State) (relay : RelayView) (disk : DiskView) (events : List Event) : Type 0 where
   pub none : events ≡ []
   pub same : state_of relay ≡ state
-  pub moments : Throughout (IsOfRelay relay.number) (λ image. Keeps relay.number image state) began disk
+  pub moments : Throughout (IsOfRelay relay.number) (λ image. Keeps relay.number (aim_of relay) image state) began disk
 
 abbrev pub TalksAt : (began : DiskView) (state : State) (relay : RelayView) (disk : DiskView) (events : List Event) → Place → Type 0
 TalksAt began state relay disk events places.Idle = ⊥
-TalksAt began state relay disk events places.Starts = IsUnsaid began state relay disk events
+TalksAt began state relay disk events (places.Starts view) = IsUnsaid began state relay disk events
 TalksAt began state relay disk events (places.Sends view) = IsSaid began state relay view disk events []
 TalksAt began state relay disk events places.Over = IsAllSaid began state relay disk events
 
 -- a connection that began on that disk with this kept: what was heard and said since made the relay, and what the disk keeps, what they are
 pub record Talks (began : DiskView) (state : State) (relay : RelayView) (disk : DiskView) (events : List Event) : Type 0 where
-  pub whole : relay.keeping.broken ≡ false
+  pub whole : is_broken relay ≡ false
   pub stands : Stands relay disk
-  pub durable : IsDurable relay.number (state_of relay) disk
+  pub durable : IsDurable relay.number (aim_of relay) (state_of relay) disk
   pub at : TalksAt began state relay disk events relay.at
 
 -- ---- One step
 
--- what a step says once the opening was handed out: nothing, one message, or those of records, of which all but the last bring at most 64 KiB of data
+-- what a step says: nothing, one message, or those of records, of which all but the last bring at most 64 KiB of data
 abbrev pub IsPiece : List ClientMessage → Type 0
 IsPiece messages = (length messages ≤ 1) ⊎ ((more : List Record) × (messages ≡ map record_message more) × ArePiece more)
 
--- a step that succeeded says these messages; it says none exactly if nothing more may be sent before a further message
-pub record Says (old new : RelayView) (got : Option ServerMessage) (messages : List ClientMessage) : Type 0 where
-  pub few : length messages ≤ 16
-  pub quiet : (messages ≡ []) ↔ IsQuietAfter got old
-  pub rests : messages ≡ [] → IsQuiet new
-  -- a step that says something marks no log
-  pub busy : messages ≢ [] → is_done (state_of old) ≡ false → is_done (state_of new) ≡ false
-  pub whole : is_broken new ≡ false
-
 -- the relay as if its exit hadn't been said: so it takes a message that comes too late
 abbrev pub unended : RelayView → RelayView
-unended relay = record relay { meter = record relay.meter { ended = false } }
+unended relay = record relay { meter = record relay.meter { ended = false; whole = false } }
 
--- a step with this message, if there is one, kept what hearing it makes of what was kept: each crash image of each moment keeps the one or the other, or nothing
-pub record KeptThrough (old new : RelayView) (got : Option ServerMessage) (before after : DiskView) : Type 0 where
-  pub total : ℕ
-  pub talk : Talk
-  pub same : talk.state ≡ state_of old
-  pub started : IsStarted old.at → (talk ≡ talk_of old) × (total ≡ old.meter.total)
-  -- before the opening the connection stands at its beginning
-  pub fresh : old.at ≡ places.Starts → (way : Way) × (talk ≡ begun (state_of old) (resumes way) (sent_before way))
-  pub run : Throughout (IsOfRelay old.number) (KeepsOneOf old.number (state_of old) (hears_any total got talk).state before) before after
-  -- a relay that is whole has the one or the other
-  pub left : is_broken new ≡ false → (state_of new ≡ state_of old) ⊎ (state_of new ≡ (hears_any total got talk).state)
+-- what a relay keeps once it heard a message
+abbrev pub kept_by : RelayView → ServerMessage → State
+kept_by relay m = (hears (aim_of relay).total m (talk_of relay)).state
+
+-- a relay heard this message, and kept what that makes of what was kept: each crash image of each moment keeps the one or the other, or nothing while one identifier replaces another
+pub record KeptThrough (old new : RelayView) (m : ServerMessage) (before after : DiskView) : Type 0 where
+  pub run : Throughout (IsOfRelay old.number) (KeepsOneOf old.number (aim_of old) (state_of old) (kept_by old m) before) before after
+  -- a relay that is whole keeps the latter
+  pub left : is_broken new ≡ false → state_of new ≡ kept_by old m

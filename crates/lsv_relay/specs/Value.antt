@@ -1,20 +1,19 @@
 -- A relay's value, as contracts see it.
-use Rattle.std.specs.Prelude.{◌≡◌, ℕ, Bool, true, not, ◌&&◌, nat_lt, if◌then◌else◌, Option, Some, None, length, ◌^◌, ◌-◌}
-use Rattle.lsv_base.specs.Time.{nanos_of}
+use Rattle.std.specs.Prelude.{◌≡◌, Bool, true, not, ◌&&◌, if◌then◌else◌}
+use Rattle.lsv_dialogue.specs.Judging.{judged_at}
 use Rattle.lsv_dialogue.specs.declared.ends.Judged.{Judged}
-use Rattle.lsv_dialogue.specs.declared.ends.Judged.TheVariants as judged
-use Rattle.lsv_disk.specs.View.{DiskView}
-use Rattle.lsv_kept.specs.Value as keeping
+use Rattle.lsv_dialogue.specs.declared.ends.Wants.{Wants}
+use Rattle.lsv_dialogue.specs.declared.ends.Wants.TheVariants as wants
+use Rattle.lsv_kept.specs.Aim.{AimView}
 use Rattle.lsv_kept.specs.declared.state.State.{State}
 use Rattle.lsv_msg.specs.declared.messages.ServerMessage.{ServerMessage}
-use Rattle.lsv_msg.specs.declared.messages.ServerMessage.TheVariants as server
-use Rattle.lsv_relay.specs.Talk.{Talk, longest_id}
+use Rattle.lsv_relay.specs.Talk.{Talk}
 use Rattle.lsv_relay.specs.declared.relay.Core.{Core}
 use Rattle.lsv_relay.specs.declared.relay.Place.{Place}
 use Rattle.lsv_relay.specs.declared.relay.Place.TheVariants as places
 use Rattle.lsv_transcript.specs.Transcript.{is_id}
 
--- the number of the log, what is kept of its relaying, how far the connection is, and where its transcript stands
+-- the number of the log, what is kept of its relaying, how far its connection is, and where the transcript stands
 abbrev pub RelayView : Type 0
 RelayView = Core
 
@@ -26,9 +25,9 @@ state_of relay = relay.keeping.state
 abbrev pub is_broken : RelayView → Bool
 is_broken relay = relay.keeping.broken
 
--- what is kept stands on the disk
-abbrev pub Stands : RelayView → DiskView → Type 0
-Stands relay disk = keeping.Stands relay.keeping disk
+-- the aim of the relaying: the host, and the elapsed time of the log
+abbrev pub aim_of : RelayView → AimView
+aim_of relay = relay.keeping.aim
 
 -- how far the connection is
 abbrev pub talk_of : RelayView → Talk
@@ -38,12 +37,13 @@ talk_of relay = record {
   asked = relay.meter.asked;
   sent = relay.meter.sent;
   ended = relay.meter.ended;
+  whole = relay.meter.whole;
 }
 
 -- nothing more may be sent before a further message: an identifier is waited for, or all was sent
 abbrev pub IsQuietAt : (waits : Bool) → Place → Type 0
 IsQuietAt waits places.Idle = ⊥
-IsQuietAt waits places.Starts = ⊥
+IsQuietAt waits (places.Starts view) = ⊥
 IsQuietAt waits (places.Sends view) = waits ≡ true
 IsQuietAt waits places.Over = Unit {0}
 
@@ -53,28 +53,25 @@ IsQuiet relay = IsQuietAt relay.meter.waits relay.at
 -- the opening was handed out
 abbrev pub IsStarted : Place → Type 0
 IsStarted places.Idle = ⊥
-IsStarted places.Starts = ⊥
+IsStarted (places.Starts view) = ⊥
 IsStarted (places.Sends view) = Unit {0}
 IsStarted places.Over = Unit {0}
 
+-- the log was opened, and nothing was handed out
+abbrev pub IsUnbegun : Place → Type 0
+IsUnbegun places.Idle = ⊥
+IsUnbegun (places.Starts view) = Unit {0}
+IsUnbegun (places.Sends view) = ⊥
+IsUnbegun places.Over = ⊥
+
 -- whether what follows the opening waits, after this message
-abbrev pub waits_after : Option ServerMessage → Bool → Bool
-waits_after None waits = waits
-waits_after (Some m) waits = waits && not (is_id m)
+abbrev pub waits_after : ServerMessage → Bool → Bool
+waits_after m waits = waits && not (is_id m)
 
--- nothing more may be sent once this message, if there is one, was taken
-abbrev pub IsQuietAfter : Option ServerMessage → RelayView → Type 0
-IsQuietAfter got relay = IsQuietAt (waits_after got relay.meter.waits) relay.at
-
--- what a commit point is, if this time was sent
-abbrev pub judge_point : (sent : ℕ) → Option ℕ → Judged
-judge_point sent None = judged.Strange (2 ^ 63 - 1)
-judge_point sent (Some c) = if nat_lt sent c then judged.Strange c else judged.Takes
-
--- what a message is to a relay: an identifier may be too long, and a commit point strange
+-- what a message is to a relay
 abbrev pub judges : RelayView → ServerMessage → Judged
-judges relay (server.Hello m) = judged.Takes
-judges relay (server.LogId id) = if nat_lt longest_id (length id) then judged.LongId (length id) else judged.Takes
-judges relay (server.CommitPoint time) = judge_point relay.meter.sent (nanos_of time)
-judges relay (server.Error text) = judged.Takes
-judges relay (server.Abort text) = judged.Takes
+judges relay m = judged_at relay.meter.sent m
+
+-- what a relay wants: once the other server has the whole time, that the connection ends
+abbrev pub wants_of : RelayView → Wants
+wants_of relay = if relay.meter.whole then wants.End else wants.More

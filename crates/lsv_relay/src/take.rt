@@ -1,97 +1,43 @@
 //! A message of the upstream is taken: what it makes of what is kept is kept before the next one.
-ghost use Rattle.std.specs.Prelude.{◌≡◌, ◌<◌, ◌^◌, not, nat_lt, ◌==◌, ◌&&◌, ◌||◌, ◌++◌, length, true, false, List, Some, IfErr, OnOk, OnErr, IsErrOf};
-ghost use Rattle.std.specs.Option.{option_copied};
+ghost use Rattle.std.specs.Prelude.{◌≡◌, ◌<◌, ◌^◌, not, nat_lt, ◌==◌, ◌&&◌, ◌||◌, ◌++◌, length, true, false, List, Some, IsSome, IfErr, OnOk, OnErr, IsErrOf};
 ghost use Rattle.lsv_base.specs.Time.{nanos_of};
 ghost use Rattle.lsv_bundle.specs.declared.fault.BundleFault.{BundleFault};
-ghost use Rattle.lsv_dialogue.specs.Events.{Event, as_late};
 ghost use Rattle.lsv_disk.specs.Throughout.{Throughout};
 ghost use Rattle.lsv_disk.specs.View.{HasOwnCause};
 ghost use Rattle.lsv_kept.specs.Kept.{IsOfRelay};
+ghost use Rattle.lsv_kept.specs.Value as kept;
 ghost use Rattle.lsv_kept.specs.Value.{is_done, keeps_id};
-ghost use Rattle.lsv_kept.specs.declared.state.State.{State};
 ghost use Rattle.lsv_relay.specs.Faults.{IsStateFault};
 ghost use Rattle.lsv_relay.specs.Inner.{HasTaken, IsRelay, IsSamePlace};
-ghost use Rattle.lsv_relay.specs.Talk.{acknowledged, hears, hears_any, hears_error, hears_id, hears_point};
-ghost use Rattle.lsv_relay.specs.Talks.{IsDurable, KeepsOneOf, KeptThrough, Talks, unended};
-ghost use Rattle.lsv_relay.specs.Value.{IsStarted, Stands, is_broken, state_of, talk_of, waits_after};
+ghost use Rattle.lsv_relay.specs.Talk.{Talk, hears, hears_error, hears_id, hears_point, kept_at};
+ghost use Rattle.lsv_relay.specs.Talks.{IsDurable, KeepsOneOf, unended};
+ghost use Rattle.lsv_relay.specs.Value.{aim_of, is_broken, state_of, talk_of};
 ghost use Rattle.lsv_relay.specs.declared.fault.RelayFault.{RelayFault};
 ghost use Rattle.lsv_transcript.specs.Transcript.{is_id};
 
 use crate::RelayFault;
 use crate::relay::Core;
 use lsv_base::{Bytes, TimeSpec};
+use lsv_dialogue::LONGEST_ID;
 use lsv_disk::Disk;
 use lsv_msg::ServerMessage;
 
-/// No identifier that is kept has more bytes.
-pub(crate) const LONGEST_ID: usize = 4096;
-
 impl Core {
-    /// Takes this message, if there is one.
+    /// Takes this message.
     pub(crate) fn take<D: Disk>(
         &mut self,
         disk: &mut D,
-        got: Option<&ServerMessage>,
-    ) -> Result<(), RelayFault>
-        requires sound { IsRelay self.old }
-        requires whole { is_broken self.old ≡ false }
-        requires stands { D.tells → Stands self.old (D.view disk.old) }
-        ensures taken { OnOk result (HasTaken self.old self.new (hears_any self.old.meter.total (option_copied got.entry) (talk_of self.old)) (waits_after (option_copied got.entry) self.old.meter.waits)) }
-        ensures same { IsSamePlace self.old self.new }
-        ensures sound { IsRelay self.new }
-        ensures stands { D.tells → OnOk result (Stands self.new (D.view disk.new)) }
-        ensures any_moment { D.tells → Throughout (IsOfRelay self.old.number) (KeepsOneOf self.old.number (state_of self.old) (hears_any self.old.meter.total (option_copied got.entry) (talk_of self.old)).state (D.view disk.old)) (D.view disk.old) (D.view disk.new) }
-        ensures durable { D.tells → IsDurable self.old.number (state_of self.old) (D.view disk.old) → OnOk result (IsDurable self.old.number (state_of self.new) (D.view disk.new)) }
-        ensures fails { OnErr result (is_broken self.new ≡ true) }
-        ensures fault { IfErr result IsStateFault }
-        ensures cause { HasOwnCause (IsOfRelay self.old.number) (IsErrOf result (RelayFault.State BundleFault.Disk)) (D.view disk.old) (D.view disk.new) }
-    {
-        let Some(message) = got else {
-            return Ok(());
-        };
-        self.take_message(disk, message)
-    }
-
-    /// Takes a message that comes too late for an answer: the exit counts as not handed out.
-    pub(crate) fn take_late<D: Disk>(
-        &mut self,
-        disk: &mut D,
         message: &ServerMessage,
     ) -> Result<(), RelayFault>
         requires sound { IsRelay self.old }
         requires whole { is_broken self.old ≡ false }
-        requires stands { D.tells → Stands self.old (D.view disk.old) }
-        ensures talks { D.tells → IsStarted self.old.at → OnOk result ((began : D) (state : State) (events : List Event) → Talks (D.view began) state self.old (D.view disk.old) events
-            → Talks (D.view began) state self.new (D.view disk.new) (events ++ as_late message.now)) }
-        ensures wants { OnOk result (is_done (state_of self.old) ≡ false → is_done (state_of self.new) ≡ false) }
-        ensures whole { OnOk result (is_broken self.new ≡ false) }
-        ensures any_moment { D.tells → IsStarted self.old.at → KeptThrough (unended self.old) self.new (Some message.now) (D.view disk.old) (D.view disk.new) }
+        requires stands { D.tells → kept.Stands self.old.keeping (D.view disk.old) }
+        ensures taken { OnOk result (HasTaken self.old self.new (hears (aim_of self.old).total message.now (talk_of self.old)) (self.old.meter.waits && not (is_id message.now))) }
         ensures same { IsSamePlace self.old self.new }
         ensures sound { IsRelay self.new }
-        ensures stands { D.tells → OnOk result (Stands self.new (D.view disk.new)) }
-        ensures fails { OnErr result (is_broken self.new ≡ true) }
-        ensures fault { IfErr result IsStateFault }
-        ensures cause { HasOwnCause (IsOfRelay self.old.number) (IsErrOf result (RelayFault.State BundleFault.Disk)) (D.view disk.old) (D.view disk.new) }
-    {
-        self.meter.ended = false;
-        self.take_message(disk, message)
-    }
-
-    /// Takes this message.
-    fn take_message<D: Disk>(
-        &mut self,
-        disk: &mut D,
-        message: &ServerMessage,
-    ) -> Result<(), RelayFault>
-        requires sound { IsRelay self.old }
-        requires whole { is_broken self.old ≡ false }
-        requires stands { D.tells → Stands self.old (D.view disk.old) }
-        ensures taken { OnOk result (HasTaken self.old self.new (hears self.old.meter.total message.now (talk_of self.old)) (self.old.meter.waits && not (is_id message.now))) }
-        ensures same { IsSamePlace self.old self.new }
-        ensures sound { IsRelay self.new }
-        ensures stands { D.tells → OnOk result (Stands self.new (D.view disk.new)) }
-        ensures any_moment { D.tells → Throughout (IsOfRelay self.old.number) (KeepsOneOf self.old.number (state_of self.old) (hears self.old.meter.total message.now (talk_of self.old)).state (D.view disk.old)) (D.view disk.old) (D.view disk.new) }
-        ensures durable { D.tells → IsDurable self.old.number (state_of self.old) (D.view disk.old) → OnOk result (IsDurable self.old.number (state_of self.new) (D.view disk.new)) }
+        ensures stands { D.tells → OnOk result (kept.Stands self.new.keeping (D.view disk.new)) }
+        ensures any_moment { D.tells → Throughout (IsOfRelay self.old.number) (KeepsOneOf self.old.number (aim_of self.old) (state_of self.old) (hears (aim_of self.old).total message.now (talk_of self.old)).state (D.view disk.old)) (D.view disk.old) (D.view disk.new) }
+        ensures durable { D.tells → IsDurable self.old.number (aim_of self.old) (state_of self.old) (D.view disk.old) → OnOk result (IsDurable self.old.number (aim_of self.old) (state_of self.new) (D.view disk.new)) }
         ensures fails { OnErr result (is_broken self.new ≡ true) }
         ensures fault { IfErr result IsStateFault }
         ensures cause { HasOwnCause (IsOfRelay self.old.number) (IsErrOf result (RelayFault.State BundleFault.Disk)) (D.view disk.old) (D.view disk.new) }
@@ -104,17 +50,41 @@ impl Core {
         }
     }
 
+    /// Takes a message that comes too late for an answer: the exit counts as not handed out.
+    pub(crate) fn take_late<D: Disk>(
+        &mut self,
+        disk: &mut D,
+        message: &ServerMessage,
+    ) -> Result<(), RelayFault>
+        requires sound { IsRelay self.old }
+        requires whole { is_broken self.old ≡ false }
+        requires stands { D.tells → kept.Stands self.old.keeping (D.view disk.old) }
+        ensures taken { OnOk result (HasTaken self.old self.new (hears (aim_of self.old).total message.now (talk_of (unended self.old))) (self.old.meter.waits && not (is_id message.now))) }
+        ensures same { IsSamePlace self.old self.new }
+        ensures sound { IsRelay self.new }
+        ensures stands { D.tells → OnOk result (kept.Stands self.new.keeping (D.view disk.new)) }
+        ensures any_moment { D.tells → Throughout (IsOfRelay self.old.number) (KeepsOneOf self.old.number (aim_of self.old) (state_of self.old) (hears (aim_of self.old).total message.now (talk_of (unended self.old))).state (D.view disk.old)) (D.view disk.old) (D.view disk.new) }
+        ensures durable { D.tells → IsDurable self.old.number (aim_of self.old) (state_of self.old) (D.view disk.old) → OnOk result (IsDurable self.old.number (aim_of self.old) (state_of self.new) (D.view disk.new)) }
+        ensures fails { OnErr result (is_broken self.new ≡ true) }
+        ensures fault { IfErr result IsStateFault }
+        ensures cause { HasOwnCause (IsOfRelay self.old.number) (IsErrOf result (RelayFault.State BundleFault.Disk)) (D.view disk.old) (D.view disk.new) }
+    {
+        self.meter.ended = false;
+        self.meter.whole = false;
+        self.take(disk, message)
+    }
+
     /// Keeps the first identifier of a connection that didn't ask for one.
     fn take_id<D: Disk>(&mut self, disk: &mut D, id: &Bytes) -> Result<(), RelayFault>
         requires sound { IsRelay self.old }
         requires whole { is_broken self.old ≡ false }
-        requires stands { D.tells → Stands self.old (D.view disk.old) }
-        ensures taken { OnOk result (HasTaken self.old self.new (hears_id id.now (talk_of self.old)) false) }
+        requires stands { D.tells → kept.Stands self.old.keeping (D.view disk.old) }
+        ensures taken { OnOk result (HasTaken self.old self.new (hears_id id.now (talk_of self.old)) (false)) }
         ensures same { IsSamePlace self.old self.new }
         ensures sound { IsRelay self.new }
-        ensures stands { D.tells → OnOk result (Stands self.new (D.view disk.new)) }
-        ensures any_moment { D.tells → Throughout (IsOfRelay self.old.number) (KeepsOneOf self.old.number (state_of self.old) (hears_id id.now (talk_of self.old)).state (D.view disk.old)) (D.view disk.old) (D.view disk.new) }
-        ensures durable { D.tells → IsDurable self.old.number (state_of self.old) (D.view disk.old) → OnOk result (IsDurable self.old.number (state_of self.new) (D.view disk.new)) }
+        ensures stands { D.tells → OnOk result (kept.Stands self.new.keeping (D.view disk.new)) }
+        ensures any_moment { D.tells → Throughout (IsOfRelay self.old.number) (KeepsOneOf self.old.number (aim_of self.old) (state_of self.old) (hears_id id.now (talk_of self.old)).state (D.view disk.old)) (D.view disk.old) (D.view disk.new) }
+        ensures durable { D.tells → IsDurable self.old.number (aim_of self.old) (state_of self.old) (D.view disk.old) → OnOk result (IsDurable self.old.number (aim_of self.old) (state_of self.new) (D.view disk.new)) }
         ensures fails { OnErr result (is_broken self.new ≡ true) }
         ensures fault { IfErr result IsStateFault }
         ensures cause { HasOwnCause (IsOfRelay self.old.number) (IsErrOf result (RelayFault.State BundleFault.Disk)) (D.view disk.old) (D.view disk.new) }
@@ -132,13 +102,13 @@ impl Core {
     fn take_point<D: Disk>(&mut self, disk: &mut D, time: TimeSpec) -> Result<(), RelayFault>
         requires sound { IsRelay self.old }
         requires whole { is_broken self.old ≡ false }
-        requires stands { D.tells → Stands self.old (D.view disk.old) }
-        ensures taken { OnOk result (HasTaken self.old self.new (hears_point self.old.meter.total (nanos_of time) (talk_of self.old)) self.old.meter.waits) }
+        requires stands { D.tells → kept.Stands self.old.keeping (D.view disk.old) }
+        ensures taken { OnOk result (HasTaken self.old self.new (hears_point (aim_of self.old).total (nanos_of time) (talk_of self.old)) (self.old.meter.waits)) }
         ensures same { IsSamePlace self.old self.new }
         ensures sound { IsRelay self.new }
-        ensures stands { D.tells → OnOk result (Stands self.new (D.view disk.new)) }
-        ensures any_moment { D.tells → Throughout (IsOfRelay self.old.number) (KeepsOneOf self.old.number (state_of self.old) (hears_point self.old.meter.total (nanos_of time) (talk_of self.old)).state (D.view disk.old)) (D.view disk.old) (D.view disk.new) }
-        ensures durable { D.tells → IsDurable self.old.number (state_of self.old) (D.view disk.old) → OnOk result (IsDurable self.old.number (state_of self.new) (D.view disk.new)) }
+        ensures stands { D.tells → OnOk result (kept.Stands self.new.keeping (D.view disk.new)) }
+        ensures any_moment { D.tells → Throughout (IsOfRelay self.old.number) (KeepsOneOf self.old.number (aim_of self.old) (state_of self.old) (hears_point (aim_of self.old).total (nanos_of time) (talk_of self.old)).state (D.view disk.old)) (D.view disk.old) (D.view disk.new) }
+        ensures durable { D.tells → IsDurable self.old.number (aim_of self.old) (state_of self.old) (D.view disk.old) → OnOk result (IsDurable self.old.number (aim_of self.old) (state_of self.new) (D.view disk.new)) }
         ensures fails { OnErr result (is_broken self.new ≡ true) }
         ensures fault { IfErr result IsStateFault }
         ensures cause { HasOwnCause (IsOfRelay self.old.number) (IsErrOf result (RelayFault.State BundleFault.Disk)) (D.view disk.old) (D.view disk.new) }
@@ -150,32 +120,32 @@ impl Core {
         if self.ignores_point(point) {
             return Ok(());
         }
-        self.acknowledge(disk, point)?;
+        self.keep(disk, point)?;
         self.meter.asked = false;
+        self.meter.whole = self.is_all(point);
         Ok(())
     }
 
-    /// The upstream has the log up to this point. If that is all of it, and the exit was handed out, the log is relayed.
-    fn acknowledge<D: Disk>(&mut self, disk: &mut D, point: u64) -> Result<(), RelayFault>
+    /// Keeps this point, unless it is 0, which fits any log.
+    fn keep<D: Disk>(&mut self, disk: &mut D, point: u64) -> Result<(), RelayFault>
         requires kept { keeps_id (state_of self.old) ≡ true }
         requires small { point < 2 ^ 63 }
         requires sound { IsRelay self.old }
         requires whole { is_broken self.old ≡ false }
-        requires stands { D.tells → Stands self.old (D.view disk.old) }
-        ensures state { OnOk result (state_of self.new ≡ acknowledged self.old.meter.ended self.old.meter.total point (state_of self.old)) }
+        requires stands { D.tells → kept.Stands self.old.keeping (D.view disk.old) }
+        ensures state { OnOk result (state_of self.new ≡ kept_at point (state_of self.old)) }
         ensures whole { OnOk result (is_broken self.new ≡ false) }
         ensures meter { self.new.meter ≡ self.old.meter }
         ensures same { IsSamePlace self.old self.new }
         ensures sound { IsRelay self.new }
-        ensures stands { D.tells → OnOk result (Stands self.new (D.view disk.new)) }
-        ensures any_moment { D.tells → Throughout (IsOfRelay self.old.number) (KeepsOneOf self.old.number (state_of self.old) (acknowledged self.old.meter.ended self.old.meter.total point (state_of self.old)) (D.view disk.old)) (D.view disk.old) (D.view disk.new) }
-        ensures durable { D.tells → IsDurable self.old.number (state_of self.old) (D.view disk.old) → OnOk result (IsDurable self.old.number (state_of self.new) (D.view disk.new)) }
+        ensures stands { D.tells → OnOk result (kept.Stands self.new.keeping (D.view disk.new)) }
+        ensures any_moment { D.tells → Throughout (IsOfRelay self.old.number) (KeepsOneOf self.old.number (aim_of self.old) (state_of self.old) (kept_at point (state_of self.old)) (D.view disk.old)) (D.view disk.old) (D.view disk.new) }
+        ensures durable { D.tells → IsDurable self.old.number (aim_of self.old) (state_of self.old) (D.view disk.old) → OnOk result (IsDurable self.old.number (aim_of self.old) (state_of self.new) (D.view disk.new)) }
         ensures fails { OnErr result (is_broken self.new ≡ true) }
         ensures fault { IfErr result IsStateFault }
         ensures cause { HasOwnCause (IsOfRelay self.old.number) (IsErrOf result (RelayFault.State BundleFault.Disk)) (D.view disk.old) (D.view disk.new) }
     {
-        if self.is_all(point) {
-            self.keeping.mark(disk, point)?;
+        if point == 0 {
             return Ok(());
         }
         self.keeping.keep_point(disk, point)?;
@@ -186,13 +156,13 @@ impl Core {
     fn take_error<D: Disk>(&mut self, disk: &mut D) -> Result<(), RelayFault>
         requires sound { IsRelay self.old }
         requires whole { is_broken self.old ≡ false }
-        requires stands { D.tells → Stands self.old (D.view disk.old) }
-        ensures taken { OnOk result (HasTaken self.old self.new (hears_error (talk_of self.old)) self.old.meter.waits) }
+        requires stands { D.tells → kept.Stands self.old.keeping (D.view disk.old) }
+        ensures taken { OnOk result (HasTaken self.old self.new (hears_error (talk_of self.old)) (self.old.meter.waits)) }
         ensures same { IsSamePlace self.old self.new }
         ensures sound { IsRelay self.new }
-        ensures stands { D.tells → OnOk result (Stands self.new (D.view disk.new)) }
-        ensures any_moment { D.tells → Throughout (IsOfRelay self.old.number) (KeepsOneOf self.old.number (state_of self.old) (hears_error (talk_of self.old)).state (D.view disk.old)) (D.view disk.old) (D.view disk.new) }
-        ensures durable { D.tells → IsDurable self.old.number (state_of self.old) (D.view disk.old) → OnOk result (IsDurable self.old.number (state_of self.new) (D.view disk.new)) }
+        ensures stands { D.tells → OnOk result (kept.Stands self.new.keeping (D.view disk.new)) }
+        ensures any_moment { D.tells → Throughout (IsOfRelay self.old.number) (KeepsOneOf self.old.number (aim_of self.old) (state_of self.old) (hears_error (talk_of self.old)).state (D.view disk.old)) (D.view disk.old) (D.view disk.new) }
+        ensures durable { D.tells → IsDurable self.old.number (aim_of self.old) (state_of self.old) (D.view disk.old) → OnOk result (IsDurable self.old.number (aim_of self.old) (state_of self.new) (D.view disk.new)) }
         ensures fails { OnErr result (is_broken self.new ≡ true) }
         ensures fault { IfErr result IsStateFault }
         ensures cause { HasOwnCause (IsOfRelay self.old.number) (IsErrOf result (RelayFault.State BundleFault.Disk)) (D.view disk.old) (D.view disk.new) }
@@ -212,18 +182,19 @@ impl Core {
         self.meter.known || LONGEST_ID < id.as_slice().len() || self.keeping.is_done()
     }
 
-    /// Whether a commit point changes nothing: it is above what was sent, or there is no identifier that it is for.
+    /// Whether a commit point changes nothing: it is above what was sent, there is no identifier that it is for, or the
+    /// upstream has all of the log already.
     fn ignores_point(&self, point: u64) -> bool
-        ensures { result ≡ (nat_lt self.now.meter.sent point || not self.now.meter.known || not (keeps_id (state_of self.now))) }
+        ensures { result ≡ (nat_lt self.now.meter.sent point || not self.now.meter.known || not (keeps_id (state_of self.now)) || self.now.meter.whole) }
     {
-        self.meter.sent < point || !self.meter.known || !self.keeping.keeps_id()
+        self.meter.sent < point || !self.meter.known || !self.keeping.keeps_id() || self.meter.whole
     }
 
     /// Whether a commit point says that the upstream has all of the log.
     fn is_all(&self, point: u64) -> bool
-        ensures { result ≡ (self.now.meter.ended && point == self.now.meter.total) }
+        ensures { result ≡ (self.now.meter.ended && point == (aim_of self.now).total) }
     {
-        self.meter.ended && point == self.meter.total
+        self.meter.ended && point == self.keeping.aim().total()
     }
 
     /// Whether an error refuses to go on with the identifier that is kept.

@@ -1,3 +1,5 @@
+use Rattle.std.proofs.Common.{subst}
+use Rattle.lsv_relay.specs.Inner.{IsRelay}
 use Rattle.lsv_relay.proofs.Done.{done_said}
 use Rattle.lsv_relay.proofs.Stored.{part_said, whole_said}
 use Rattle.lsv_relay.proofs.laws.a_stored_log_is_relayed.Goals as goal
@@ -11,5 +13,5 @@ returns-clause-whole g c state events talks quiet stored head text exit holds he
     whole_said (g.D.Disk.view c.args.began.now) state c.args.relay.now (g.D.Disk.view c.args.disk.now) events stored head text exit holds head_ok some exit_ok talks quiet
 
 pub returns-clause-relayed : goal.returns-clause-relayed
-returns-clause-relayed g c state events talks undone done =
-    done_said (g.D.Disk.view c.args.began.now) state c.args.relay.now (g.D.Disk.view c.args.disk.now) events talks undone done
+returns-clause-relayed g c state events talks whole =
+    done_said (g.D.Disk.view c.args.began.now) state c.args.relay.now (g.D.Disk.view c.args.disk.now) events (subst IsRelay c.relay.view_is c.relay.invariant) talks whole

@@ -1,25 +1,24 @@
 -- A step of the parts is a step of the relay.
-use Rattle.std.proofs.Common.{sym, subst}
-use Rattle.std.proofs.lemmas.Result.{IfErr-weaker, IfOk-weaker}
-use Rattle.lsv_relay.specs.Faults.{IsLogCause}
-use Rattle.lsv_relay.specs.Talks.{Talks}
+use Rattle.std.proofs.Common.{subst, sym}
 use Rattle.lsv_relay.specs.Value.{IsStarted, RelayView}
+use Rattle.lsv_relay.proofs.Beginning.{step_pieces, step_says, step_unwhole, step_why}
 use Rattle.lsv_relay.proofs.relay.Relay.step.Goals as goal
+
+pub answer-requires-clause-started : goal.answer-requires-clause-started
+answer-requires-clause-started g c = subst (λ (r : RelayView). IsStarted r.at) (sym c.self.view_is) c.requires.started
 
 pub returns-clause-talks : goal.returns-clause-talks
 returns-clause-talks g c told =
-    IfOk-weaker c.any_step.result _ _
-    (λ messages goes began state events talks. goes began state events (subst (λ (r : RelayView). Talks (g.D.Disk.view began) state r (g.D.Disk.view c.args.disk.now) events) (sym c.self.view_is) talks))
-    (c.any_step.ensures.talks told)
+    step_says g.D.Disk.view c.answer.result c.args.self.now c.self.inside.core c.answer.new.self (g.D.Disk.view c.args.disk.now) (g.D.Disk.view c.answer.new.disk) c.self.view_is c.requires.started c.answer.ensures.same.0 c.answer.ensures.same.1 c.answer.ensures.started
+    (c.answer.ensures.reads told) (c.answer.ensures.answers told)
 
 pub returns-clause-piece : goal.returns-clause-piece
 returns-clause-piece g c told =
-    IfOk-weaker c.any_step.result _ _
-    (λ messages piece began state events talks started. piece began state events (subst (λ (r : RelayView). Talks (g.D.Disk.view began) state r (g.D.Disk.view c.args.disk.now) events) (sym c.self.view_is) talks) (subst (λ (r : RelayView). IsStarted r.at) (sym c.self.view_is) started))
-    (c.any_step.ensures.piece told)
+    step_pieces g.D.Disk.view c.answer.result c.args.self.now c.self.inside.core c.answer.new.self (g.D.Disk.view c.args.disk.now) (g.D.Disk.view c.answer.new.disk) c.self.view_is c.requires.started c.answer.ensures.same.0 c.answer.ensures.same.1
+    (c.answer.ensures.reads told) (c.answer.ensures.answers told)
+
+pub returns-clause-busy : goal.returns-clause-busy
+returns-clause-busy g c whole = step_unwhole c.answer.result c.args.self.now c.self.inside.core c.answer.new.self c.self.view_is c.self.invariant c.answer.ensures.busy whole
 
 pub returns-clause-why : goal.returns-clause-why
-returns-clause-why g c told =
-    IfErr-weaker c.any_step.result _ _
-    (λ fault why began state events talks. subst (λ (r : RelayView). IsLogCause r.number (g.D.Disk.view c.args.disk.now) fault) c.self.view_is (why began state events (subst (λ (r : RelayView). Talks (g.D.Disk.view began) state r (g.D.Disk.view c.args.disk.now) events) (sym c.self.view_is) talks)))
-    (c.any_step.ensures.why told)
+returns-clause-why g c told = step_why c.answer.result c.args.self.now c.self.inside.core (g.D.Disk.view c.args.disk.now) c.self.view_is (c.answer.ensures.why told) c.answer.ensures.fault

@@ -1,0 +1,3 @@
+pub mod Over
+pub mod Put
+pub mod Read
