@@ -16,7 +16,7 @@ use Rattle.lsv_bundle.specs.Committed.{HasEntry, HasPrefix, IsDamaged, IsFirstSh
 use Rattle.lsv_bundle.specs.Shape.{index_of, journal_of, parts_of}
 use Rattle.lsv_iolog.specs.Damage.{HasFault, IsViewDamage}
 use Rattle.lsv_kept.specs.Kept.{IsMarked, IsStateDamage}
-use Rattle.lsv_relay.specs.Complete.{IsComplete}
+use Rattle.lsv_relay.specs.Complete.{IsComplete, IsRelayed, IsTimed}
 
 -- the files of an owner are the same in both images
 abbrev pub SameOf : Owner → Image → Image → Type 0
@@ -35,6 +35,17 @@ marked_alone n image other same is = record {
   kind = is.kind;
   enough = λ short. is.enough (subst (λ (o : Option (List ℕ)). IsShort o (length_of is.body Id)) (same (file_of (owners.Relay n) Id) refl) short);
 }
+
+pub relayed_alone : (n : ℕ) (image other : Image) → SameOf (owners.Log n) image other → SameOf (owners.Relay n) image other → IsRelayed n image → IsRelayed n other
+unfolding complete_alone marked_alone
+relayed_alone n image other log relay is = record {
+  complete = complete_alone n image other log is.complete;
+  mark = record { mark = marked_alone n image other relay is.mark.mark; time = is.mark.time };
+}
+
+pub timed_alone : (n total : ℕ) (image other : Image) → SameOf (owners.Log n) image other → IsTimed n total image → IsTimed n total other
+unfolding complete_alone
+timed_alone n total image other same is = record { complete = complete_alone n image other same is.complete; time = is.time }
 
 -- ---- Damage
 

@@ -1,6 +1,6 @@
 -- A run over the logs of a store, log by log.
-use Rattle.std.proofs.Common.{◌≡◌, ◌∙◌, ℕ, suc, ◌+◌, ◌≤◌, ◌<◌, List, [], ◌∷◌, length, Option, Some, None, Result, Err, Bool, true, false, if◌then◌else◌, refl, sym, ap, subst, arith}
-use Rattle.std.specs.Prelude.{MatchBool}
+use Rattle.std.proofs.Common.{◌≡◌, ◌∙◌, ℕ, zero, suc, ◌+◌, ◌-◌, ◌≤◌, ◌<◌, List, [], ◌∷◌, length, Option, Some, None, Result, Err, Bool, true, false, if◌then◌else◌, refl, sym, ap, subst, arith}
+use Rattle.std.specs.Prelude.{MatchBool, IsSome, not, ◌&&◌}
 use Rattle.lsv_disk.specs.declared.file.FileId.{FileId}
 use Rattle.lsv_disk.specs.declared.file.Owner.{Owner}
 use Rattle.lsv_disk.specs.declared.file.Owner.TheVariants as owners
@@ -14,11 +14,11 @@ use Rattle.lsv_link.specs.Link.{Continues, LinkCounts, LinkState, after_close, j
 use Rattle.lsv_relay.specs.declared.fault.RelayFault.{RelayFault}
 use Rattle.lsv_relay.specs.declared.fault.RelayFault.TheVariants as relays
 use Rattle.lsv_relay.specs.declared.run.RelayEnd.{RelayEnd}
-use Rattle.lsv_forward.specs.Logs.{AreAs, AreJoined, AreTo, Handled, HasShutCause, IsAs, IsAt, IsDone, IsLeft, IsSendable, IsShut, IsUnjudged, IsUnmarked, WasAs, WereAs, is_device, is_left, left_in}
+use Rattle.lsv_forward.specs.Logs.{AreAs, AreJoined, AreTo, AreTried, Handled, HasShutCause, IsAs, IsAt, IsLeft, IsSendable, IsShut, IsUnjudged, IsUnmarked, WasAs, WereAs, is_device, is_left, is_unreached, are_reached, left_in}
 use Rattle.lsv_kept.specs.Kept.{IsAsBefore, IsOfRelay}
 use Rattle.lsv_kept.proofs.Unique.{keeps_alone}
-use Rattle.lsv_relay.specs.Complete.{IsComplete}
-use Rattle.lsv_relay.specs.Value.{state_of}
+use Rattle.lsv_relay.specs.Complete.{IsComplete, IsRelayed}
+use Rattle.lsv_relay.specs.Value.{aim_of, state_of}
 use Rattle.lsv_seq.specs.Drawn.{entry_at, viewed}
 use Rattle.lsv_seq.specs.declared.fault.SeqFault.TheVariants.{Damaged}
 use Rattle.lsv_forward.specs.Numbers.{HasLaneCause, HasNumbersCause, IsLane, lane_of, last_number}
@@ -28,8 +28,8 @@ use Rattle.lsv_forward.specs.Carried.{AreCarried, AtEach, Carries, InTurn, IsCar
 use Rattle.lsv_forward.specs.Inner.{Handles, HandlesPart}
 use Rattle.lsv_forward.specs.Run.{Forwards, IsClosed, IsOfRelays, Stops, TouchesRelays}
 use Rattle.lsv_forward.specs.declared.outcome.Outcome.{Outcome}
-use Rattle.lsv_forward.specs.declared.outcome.Outcome.TheVariants.{Passed, Marked, Relayed, Pending, Unopened, Failed}
-use Rattle.lsv_forward.proofs.Apart.{SameOf, complete_alone, marked_alone, state_damage_alone, view_damage_alone}
+use Rattle.lsv_forward.specs.declared.outcome.Outcome.TheVariants.{Passed, Marked, Relayed, Pending, Untried, Unopened, Failed}
+use Rattle.lsv_forward.proofs.Apart.{SameOf, complete_alone, relayed_alone, state_damage_alone, timed_alone, view_damage_alone}
 use Rattle.lsv_forward.proofs.Moments.{Laws, SameStart, as_before_files, before_later, durable_later, since_before, start_before, turn_later, turn_since, turn_start}
 
 -- ---- Counts
@@ -64,13 +64,17 @@ module _ (n : ℕ) (image other : Image) (same : SameAt n image other) where
   incomplete_same : (IsComplete n image → ⊥) → IsComplete n other → ⊥
   incomplete_same not is = not (complete_alone n other image (same_back (owners.Log n) image other same.log) is)
 
-  done_same : IsDone n image → IsDone n other
-  done_same is = record { complete = complete_alone n image other same.log is.complete; marked = marked_alone n image other same.relay is.marked }
+  done_same : IsRelayed n image → IsRelayed n other
+  done_same is = relayed_alone n image other same.log same.relay is
+
+  -- and a mark on the other is one here
+  done_back : IsRelayed n other → IsRelayed n image
+  done_back is = relayed_alone n other image (same_back (owners.Log n) image other same.log) (same_back (owners.Relay n) image other same.relay) is
 
   unmarked_same : IsUnmarked n image → IsUnmarked n other
   unmarked_same is = record {
     complete = complete_alone n image other same.log is.complete;
-    unmarked = λ marked. is.unmarked (marked_alone n other image (same_back (owners.Relay n) image other same.relay) marked);
+    unmarked = λ marked. is.unmarked (done_back marked);
   }
 
   sendable_same : IsSendable n image → IsSendable n other
@@ -82,7 +86,7 @@ module _ (n : ℕ) (image other : Image) (same : SameAt n image other) where
   left_same : (fault : RelayFault) → IsLeft n fault image → IsLeft n fault other
   left_same fault is = record {
     complete = complete_alone n image other same.log is.complete;
-    unmarked = λ kept marked. is.unmarked kept (marked_alone n other image (same_back (owners.Relay n) image other same.relay) marked);
+    unmarked = λ kept marked. is.unmarked kept (done_back marked);
   }
 
 -- if the disk tells its content, both images have the same files of a log and of its relaying
@@ -92,7 +96,7 @@ module _ (tells : Type 0) (n : ℕ) (image other : Image) (same : tells → Same
   shut_cause_same (relays.Log logs.Absent) cause = cause
   shut_cause_same (relays.Log (logs.Damaged part)) cause = λ told. let s = same told in let c = cause told in record {
     complete = complete_alone n image other s.log c.complete;
-    unmarked = λ marked. c.unmarked (marked_alone n other image (same_back (owners.Relay n) image other s.relay) marked);
+    unmarked = λ marked. c.unmarked (done_back n image other s marked);
     damage = view_damage_alone n part image other s.log c.damage;
   }
   shut_cause_same (relays.Log logs.Disk) cause = cause
@@ -109,6 +113,7 @@ module _ (tells : Type 0) (n : ℕ) (image other : Image) (same : tells → Same
   was_same Marked conn w = (w.0, λ told. done_same n image other (same told) (w.1 told))
   was_same Relayed conn w = (w.0, λ told. sendable_same n image other (same told) (w.1 told))
   was_same (Pending cause) conn w = (w.0, λ told. sendable_same n image other (same told) (w.1 told))
+  was_same Untried conn w = (w.0, λ told. unmarked_same n image other (same told) (w.1 told))
   was_same (Unopened fault) conn w = (w.0, shut_cause_same fault w.1)
   was_same (Failed fault) conn w = (w.0, λ told. sendable_same n image other (same told) (w.1 told))
 
@@ -122,6 +127,8 @@ module _ {D : Type 0} (tells links : Type 0) (view : D → DiskView) (n : ℕ) (
   carried_later from mid to old now later Touched (Some conn) laws apart time run up c = record {
     carriage = c.carriage;
     number = c.number;
+    host_is = c.host_is;
+    timed = c.timed;
     kept = c.kept;
     same_began = c.same_began;
     same_ended = c.same_ended;
@@ -131,7 +138,7 @@ module _ {D : Type 0} (tells links : Type 0) (view : D → DiskView) (n : ℕ) (
     is = c.is;
     went = c.went;
     turn = λ told. turn_later n Touched (view c.carriage.began) (view c.carriage.disk) old now later (laws told) apart (run told) (c.turn told);
-    left = λ told sure. durable_later n Touched (state_of c.carriage.relay) now later (laws told) apart (run told) (c.left told sure);
+    left = λ told sure. durable_later n Touched (aim_of c.carriage.from) (state_of c.carriage.relay) now later (laws told) apart (run told) (c.left told sure);
   }
 
   -- the disk and the link were as they were before some calls
@@ -141,7 +148,9 @@ module _ {D : Type 0} (tells links : Type 0) (view : D → DiskView) (n : ℕ) (
   moved from mid to old now later conn same up shift c = record {
     carriage = c.carriage;
     number = c.number;
-    kept = λ told. keeps_alone n now.reads old.reads c.carriage.state (same told).relay (c.kept told);
+    host_is = c.host_is;
+    timed = λ told. timed_alone n (aim_of c.carriage.from).total now.reads old.reads (same told).log (c.timed told);
+    kept = λ told. keeps_alone n (aim_of c.carriage.from) now.reads old.reads (state_of c.carriage.from) (same told).relay (c.kept told);
     same_began = λ told file own. c.same_began told file own ∙ sym ((same told).log file own);
     same_ended = λ told file own. c.same_ended told file own ∙ sym ((same told).log file own);
     earlier = continues_trans from mid c.carriage.before up c.earlier;
@@ -209,6 +218,7 @@ module _ (tells : Type 0) (n : ℕ) (old now later : DiskView) (same : tells →
   as_later Marked is = λ told. done_same n now.reads later.reads (same told) (is told)
   as_later Relayed is = λ told. done_same n now.reads later.reads (same told) (is told)
   as_later (Pending cause) is = λ told. unmarked_same n now.reads later.reads (same told) (is told)
+  as_later Untried is = λ told. unmarked_same n now.reads later.reads (same told) (is told)
   as_later (Unopened fault) is = shut_later fault is
   as_later (Failed fault) is = at_later fault is
 
@@ -221,6 +231,7 @@ module _ (tells : Type 0) (n : ℕ) (old now later : DiskView) (up : (file : Fil
   as_since Marked is = is
   as_since Relayed is = is
   as_since (Pending cause) is = is
+  as_since Untried is = is
   as_since (Unopened fault) is = match_map (is_device fault) (IsUnjudged n now later) (tells → IsLeft n fault later.reads) (IsUnjudged n old later) (tells → IsLeft n fault later.reads) (unjudged_since n old now later up) (λ m. m) is
   as_since (Failed fault) is = at_since fault is
 
@@ -274,11 +285,13 @@ touches_relays n old now run = widened (IsUpTo n) IsOfRelays (λ image. Unit {0}
 -- ---- The loop
 
 -- the logs up to n were handled
-pub record IsGoing {D : Type 0} (view : D → DiskView) (host : List ℕ) (tells links : Type 0) (n left : ℕ) (old now : DiskView) (link link' : LinkState) (counts counts' : LinkCounts) : Type 0 where
+pub record IsGoing {D : Type 0} (view : D → DiskView) (host : List ℕ) (tells links : Type 0) (n left : ℕ) (reached : Bool) (old now : DiskView) (link link' : LinkState) (counts counts' : LinkCounts) : Type 0 where
   pub logs : List Handled
   pub count : length logs ≡ n
   pub left_is : left ≡ left_in logs
   pub few : left ≤ n
+  pub reach : reached ≡ are_reached logs
+  pub tried : AreTried logs
   pub were : WereAs tells logs old.reads
   pub are : AreAs tells logs old now
   pub hosts : links → AreTo host logs
@@ -289,18 +302,25 @@ pub record IsGoing {D : Type 0} (view : D → DiskView) (host : List ℕ) (tells
   pub monotone : (file : FileId) → old.faults file ≤ now.faults file
   pub continues : Continues counts counts'
 
+-- and no further number than the last
+pub record IsRunning {D : Type 0} (view : D → DiskView) (host : List ℕ) (tells links : Type 0) (last n left : ℕ) (reached : Bool) (old now : DiskView) (link link' : LinkState) (counts counts' : LinkCounts) : Type 0 where
+  pub within : n ≤ last
+  pub going : IsGoing view host tells links n left reached old now link link' counts counts'
+
 -- a link without an open connection is as after a close
 closed_same : (link : LinkState) → IsClosed link → link ≡ after_close link
 closed_same link closed =
     ap (λ (o : Option Connection). let s : LinkState = record link { now = o } in s) closed
     ∙ sym (ap (λ (o : Option Connection). let s : LinkState = record link { past = joined link.past o; now = None } in s) closed)
 
-pub going_starts : {D : Type 0} (view : D → DiskView) (host : List ℕ) (tells links : Type 0) (disk : DiskView) (link : LinkState) (counts : LinkCounts) → (tells → OnlyNow disk) → (links → IsClosed link) → IsGoing view host tells links 0 0 disk disk link link counts counts
+pub going_starts : {D : Type 0} (view : D → DiskView) (host : List ℕ) (tells links : Type 0) (disk : DiskView) (link : LinkState) (counts : LinkCounts) → (tells → OnlyNow disk) → (links → IsClosed link) → IsGoing view host tells links 0 0 true disk disk link link counts counts
 going_starts view host tells links disk link counts now closed = record {
   logs = [];
   count = refl;
   left_is = refl;
   few = omega arith;
+  reach = refl;
+  tried = tt;
   were = tt;
   are = tt;
   hosts = λ told. tt;
@@ -326,8 +346,18 @@ apart_above n k above file own t = let same : t.0 ≡ k = relay_number t.0 k (sy
 apart_below : (n k : ℕ) → k < n → (file : FileId) → IsOfRelay k file → IsOfRelay n file → ⊥
 apart_below n k below file own t = let same : k ≡ n = relay_number k n (sym own ∙ t) in let f : ⊥ = omega arith in f
 
-module _ {D : Type 0} (view : D → DiskView) (host : List ℕ) (tells links : Type 0) (n left : ℕ) (old now later : DiskView) (link link' link'' : LinkState) (counts counts' counts'' : LinkCounts)
-    (going : IsGoing view host tells links n left old now link link' counts counts') (itself : tells → IsCrashImage old old.reads) (laws : tells → Laws now)
+and_true : (b : Bool) → b ≡ (b && true)
+and_true true = refl
+and_true false = refl
+
+nobody : IsSome {T = Connection} None → ⊥
+nobody some = absurd (cc)
+
+passed_untried : Passed ≡ Untried → ⊥
+passed_untried is = absurd (cc)
+
+module _ {D : Type 0} (view : D → DiskView) (host : List ℕ) (tells links : Type 0) (n left : ℕ) (reached : Bool) (old now later : DiskView) (link link' link'' : LinkState) (counts counts' counts'' : LinkCounts)
+    (going : IsGoing view host tells links n left reached old now link link' counts counts') (itself : tells → IsCrashImage old old.reads) (laws : tells → Laws now)
     (files : tells → Throughout (IsOfRelay (n + 1)) (λ image. Unit {0}) now later) (up : (file : FileId) → now.faults file ≤ later.faults file) (on : Continues counts' counts'') where
   next : n + 1 ≡ suc (length going.logs)
   next = let c = going.count in omega arith
@@ -350,13 +380,15 @@ module _ {D : Type 0} (view : D → DiskView) (host : List ℕ) (tells links : T
   were_as : AreAs tells going.logs old later
   were_as = are_later tells going.logs old now later (λ told k less. same_but (n + 1) k now later (let c = going.count in omega arith) (files told)) up going.are
 
-  pub going_goes_on : (left' : ℕ) (outcome : Outcome) → Handles view host tells links (n + 1) outcome now later link' link'' counts' counts'' → (links → IsClosed link'') → left' ≡ left + more_left outcome → left' ≤ n + 1
-      → IsGoing view host tells links (n + 1) left' old later link link'' counts counts''
-  going_goes_on left' outcome one closed left_more few = record {
+  pub going_goes_on : (left' : ℕ) (reached' : Bool) (outcome : Outcome) → reached' ≡ (reached && not (is_unreached outcome)) → (one : Handles view host tells links (n + 1) outcome now later link' link'' counts' counts'') → (IsSome one.conn → reached ≡ true) → (outcome ≡ Untried → reached ≡ false) → (links → IsClosed link'') → left' ≡ left + more_left outcome → left' ≤ n + 1
+      → IsGoing view host tells links (n + 1) left' reached' old later link link'' counts counts''
+  going_goes_on left' reached' outcome reach one tried untried closed left_more few = record {
     logs = record { outcome = outcome; conn = one.conn } ∷ going.logs;
     count = let c = going.count in omega arith;
     left_is = left_more ∙ ap (λ (k : ℕ). k + more_left outcome) going.left_is;
     few = few;
+    reach = reach ∙ ap (λ (b : Bool). b && not (is_unreached outcome)) going.reach;
+    tried = (λ some. sym going.reach ∙ tried some, λ un. sym going.reach ∙ untried un, going.tried);
     were = (was, going.were);
     are = (is, were_as);
     hosts = λ told. (one.host_is told, going.hosts told);
@@ -380,6 +412,7 @@ module _ {D : Type 0} (view : D → DiskView) (host : List ℕ) (tells links : T
     logs = going.logs;
     were = going.were;
     are = were_as;
+    tried = going.tried;
     went = were_carried;
     conn = part.conn;
     part = part_since IsOutOfMemory part.conn part.went;
@@ -388,13 +421,45 @@ module _ {D : Type 0} (view : D → DiskView) (host : List ℕ) (tells links : T
     above = λ told k above. untouched_above (n + 1) k old later (itself told) (let c = going.count in omega arith) (up_to_more n old now later (going.files told) (files told));
   }
 
+-- a number without a complete log is passed over
+module _ {D : Type 0} (view : D → DiskView) (host : List ℕ) (tells links : Type 0) (left : ℕ) (reached : Bool) (old now : DiskView) (link link' : LinkState) (counts counts' : LinkCounts) (itself : tells → IsCrashImage old old.reads) (laws : tells → Laws now) (only : tells → OnlyNow now) where
+  passes_one : (n : ℕ) → IsGoing view host tells links n left reached old now link link' counts counts' → (tells → IsComplete (n + 1) now.reads → ⊥) → IsGoing view host tells links (n + 1) left reached old now link link' counts counts'
+  passes_one n going none =
+      going_goes_on view host tells links n left reached old now now link link' link' counts counts' counts' going itself laws
+      (λ told. started (IsOfRelay (n + 1)) (λ image. Unit {0}) now (only told) (λ image is. tt)) (λ file. omega arith) (continues_same counts' counts' refl)
+      left reached Passed (and_true reached) one (λ some. absurd (nobody some)) (λ un. absurd (passed_untried un)) going.closed (let z : more_left Passed ≡ 0 = refl in omega (arith, z)) (let few : left ≤ n = going.few in omega (arith, few))
+    where
+      one : Handles view host tells links (n + 1) Passed now now link' link' counts' counts'
+      one = record {
+        conn = None;
+        was = (refl, none);
+        is = none;
+        host_is = λ told. tt;
+        conns = λ told. refl;
+        went = λ told. (started (IsOfRelay (n + 1)) (IsAsBefore (n + 1) now) now (only told) (λ image is. as_before_files (n + 1) now image (laws told).reads_itself (λ file own. is file))).each;
+      }
+
+  pub passes : (d n : ℕ) → IsGoing view host tells links n left reached old now link link' counts counts' → ((k : ℕ) → n < k → k ≤ n + d → tells → IsComplete k now.reads → ⊥) → IsGoing view host tells links (n + d) left reached old now link link' counts counts'
+  passes zero n going none = subst (λ (m : ℕ). IsGoing view host tells links m left reached old now link link' counts counts') (let e : n ≡ n + 0 = omega arith in e) going
+  passes (suc d) n going none =
+      subst (λ (m : ℕ). IsGoing view host tells links m left reached old now link link' counts counts') (let e : (n + 1) + d ≡ n + suc d = omega arith in e)
+      (passes d (n + 1) (passes_one n going (none (n + 1) (omega arith) (omega arith))) (λ k low high. none k (omega (arith, low)) (omega (arith, high))))
+
+-- up to a number
+pub going_passes : {D : Type 0} (view : D → DiskView) (host : List ℕ) (tells links : Type 0) (n m left : ℕ) (reached : Bool) (old now : DiskView) (link link' : LinkState) (counts counts' : LinkCounts) → (tells → IsCrashImage old old.reads) → (tells → Laws now) → (tells → OnlyNow now)
+    → IsGoing view host tells links n left reached old now link link' counts counts' → n ≤ m → ((k : ℕ) → n < k → k ≤ m → tells → IsComplete k now.reads → ⊥) → IsGoing view host tells links m left reached old now link link' counts counts'
+going_passes view host tells links n m left reached old now link link' counts counts' itself laws only going up none =
+    subst (λ (k : ℕ). IsGoing view host tells links k left reached old now link link' counts counts') (let e : n + (m - n) ≡ m = omega (arith, up) in e)
+    (passes view host tells links left reached old now link link' counts counts' itself laws only (m - n) n going (λ k low high. none k low (let h : n + (m - n) ≡ m = omega (arith, up) in omega (arith, high, h))))
+
 -- memory ran out before any
-pub going_ends : {D : Type 0} (view : D → DiskView) (host : List ℕ) (tells links : Type 0) (n left : ℕ) (old now : DiskView) (link link' : LinkState) (counts counts' : LinkCounts) → (tells → IsCrashImage old old.reads) → IsGoing view host tells links n left old now link link' counts counts'
+pub going_ends : {D : Type 0} (view : D → DiskView) (host : List ℕ) (tells links : Type 0) (n left : ℕ) (reached : Bool) (old now : DiskView) (link link' : LinkState) (counts counts' : LinkCounts) → (tells → IsCrashImage old old.reads) → IsGoing view host tells links n left reached old now link link' counts counts'
     → Stops view host tells links old now link link' counts counts'
-going_ends view host tells links n left old now link link' counts counts' itself going = record {
+going_ends view host tells links n left reached old now link link' counts counts' itself going = record {
   logs = going.logs;
   were = going.were;
   are = going.are;
+  tried = going.tried;
   went = going.went;
   conn = None;
   part = λ told. untouched_above n (suc (length going.logs)) old now (itself told) (let c = going.count in omega arith) (going.files told);
@@ -404,14 +469,15 @@ going_ends view host tells links n left old now link link' counts counts' itself
 }
 
 -- all numbers were gone through
-pub going_over : {D : Type 0} (view : D → DiskView) (host : List ℕ) (tells links : Type 0) (last left : ℕ) (old now : DiskView) (link link' : LinkState) (counts counts' : LinkCounts) → (tells → IsCrashImage old old.reads)
-    → IsGoing view host tells links last left old now link link' counts counts' → (tells → last_number old.reads ≡ Some last) → Forwards view host tells links old now link link' counts counts' left
-going_over view host tells links last left old now link link' counts counts' itself going last_is = record {
+pub going_over : {D : Type 0} (view : D → DiskView) (host : List ℕ) (tells links : Type 0) (last left : ℕ) (reached : Bool) (old now : DiskView) (link link' : LinkState) (counts counts' : LinkCounts) → (tells → IsCrashImage old old.reads)
+    → IsGoing view host tells links last left reached old now link link' counts counts' → (tells → last_number old.reads ≡ Some last) → Forwards view host tells links old now link link' counts counts' left
+going_over view host tells links last left reached old now link link' counts counts' itself going last_is = record {
   logs = going.logs;
   last = λ told. last_is told ∙ ap (λ (k : ℕ). Some k) (sym going.count);
   were = going.were;
   are = going.are;
   left_is = going.left_is;
+  tried = going.tried;
   hosts = going.hosts;
   conns = going.conns;
   went = going.went;
@@ -437,6 +503,7 @@ forwards_since view host tells links old now later link link' from mid to left s
   were = were_since tells f.logs now.reads old.reads (λ told. sym (start told).reads) f.were;
   are = are_since tells f.logs old now later up f.are;
   left_is = f.left_is;
+  tried = f.tried;
   hosts = f.hosts;
   conns = f.conns;
   went = are_carried_start tells links view from mid to old now later IsOfRelays f.logs start run on f.went;
@@ -449,6 +516,7 @@ stops_since view host tells links old now later link link' from mid to start run
   logs = s.logs;
   were = were_since tells s.logs now.reads old.reads (λ told. sym (start told).reads) s.were;
   are = are_since tells s.logs old now later up s.are;
+  tried = s.tried;
   went = are_carried_start tells links view from mid to old now later IsOfRelays s.logs start run on s.went;
   conn = s.conn;
   part = carried_start tells links view (suc (length s.logs)) IsOutOfMemory from mid to old now later IsOfRelays s.conn start run on s.part;
@@ -469,21 +537,21 @@ pub touches_more : (n number : ℕ) (old now later : DiskView) → number ≡ n 
 touches_more n number old now later is first second =
     touches_relays (n + 1) old later (up_to_more n old now later first (subst (λ (k : ℕ). Throughout (IsOfRelay k) (λ image. Unit {0}) now later) is second))
 
-module _ {D : Type 0} (view : D → DiskView) (host : List ℕ) (tells links : Type 0) (n number left : ℕ) (old now later : DiskView) (link link' link'' : LinkState) (counts counts' counts'' : LinkCounts) (is : number ≡ n + 1)
-    (going : IsGoing view host tells links n left old now link link' counts counts') (itself : tells → IsCrashImage old old.reads) (laws : tells → Laws now)
+module _ {D : Type 0} (view : D → DiskView) (host : List ℕ) (tells links : Type 0) (n number left : ℕ) (reached : Bool) (old now later : DiskView) (link link' link'' : LinkState) (counts counts' counts'' : LinkCounts) (is : number ≡ n + 1)
+    (going : IsGoing view host tells links n left reached old now link link' counts counts') (itself : tells → IsCrashImage old old.reads) (laws : tells → Laws now)
     (files : tells → Throughout (IsOfRelay number) (λ image. Unit {0}) now later) (up : (file : FileId) → now.faults file ≤ later.faults file) (on : Continues counts' counts'') where
   of_next : tells → Throughout (IsOfRelay (n + 1)) (λ image. Unit {0}) now later
   of_next told = subst (λ (k : ℕ). Throughout (IsOfRelay k) (λ image. Unit {0}) now later) is (files told)
 
-  pub going_with : (left' : ℕ) (outcome : Outcome) → Handles view host tells links number outcome now later link' link'' counts' counts'' → (links → IsClosed link'') → left' ≡ left + more_left outcome
-      → IsGoing view host tells links (n + 1) left' old later link link'' counts counts''
-  going_with left' outcome one closed more =
-      going_goes_on view host tells links n left old now later link link' link'' counts counts' counts'' going itself laws of_next up on left' outcome
-      (subst (λ (k : ℕ). Handles view host tells links k outcome now later link' link'' counts' counts'') is one) closed more
+  pub going_with : (left' : ℕ) (reached' : Bool) (outcome : Outcome) → reached' ≡ (reached && not (is_unreached outcome)) → (one : Handles view host tells links number outcome now later link' link'' counts' counts'') → (IsSome one.conn → reached ≡ true) → (outcome ≡ Untried → reached ≡ false)
+      → (links → IsClosed link'') → left' ≡ left + more_left outcome → IsGoing view host tells links (n + 1) left' reached' old later link link'' counts counts''
+  going_with left' reached' outcome reach one tried untried closed more =
+      let both = subst (λ (k : ℕ). (h : Handles view host tells links k outcome now later link' link'' counts' counts'') × (IsSome h.conn → reached ≡ true)) is (one, tried) in
+      going_goes_on view host tells links n left reached old now later link link' link'' counts counts' counts'' going itself laws of_next up on left' reached' outcome reach both.0 both.1 untried closed more
       (let few : left ≤ n = going.few in let least : more_left outcome ≤ 1 = at_most_one (is_left outcome) in omega (arith, more))
 
   pub stops_with : HandlesPart view host tells links number now later link' link'' counts' counts'' → Stops view host tells links old later link link'' counts counts''
-  stops_with part = going_stops view host tells links n left old now later link link' link'' counts counts' counts'' going itself laws of_next up on (subst (λ (k : ℕ). HandlesPart view host tells links k now later link' link'' counts' counts'') is part)
+  stops_with part = going_stops view host tells links n left reached old now later link link' link'' counts counts' counts'' going itself laws of_next up on (subst (λ (k : ℕ). HandlesPart view host tells links k now later link' link'' counts' counts'') is part)
 
 -- the connection that was open is among those of before
 pub forwards_closed : {D : Type 0} (view : D → DiskView) (host : List ℕ) (tells links : Type 0) (old new : DiskView) (link closed link' : LinkState) (from to : LinkCounts) (left : ℕ) → (links → closed ≡ after_close link) → Forwards view host tells links old new closed link' from to left
@@ -494,6 +562,7 @@ forwards_closed view host tells links old new link closed link' from to left is 
   were = f.were;
   are = f.are;
   left_is = f.left_is;
+  tried = f.tried;
   hosts = f.hosts;
   conns = λ told. subst (λ (before : LinkState). AreJoined f.logs before link') (ap after_close (is told)) (f.conns told);
   went = f.went;
@@ -506,6 +575,7 @@ stops_closed view host tells links old new link closed link' from to is s = reco
   logs = s.logs;
   were = s.were;
   are = s.are;
+  tried = s.tried;
   went = s.went;
   conn = s.conn;
   part = s.part;
@@ -514,5 +584,5 @@ stops_closed view host tells links old new link closed link' from to is s = reco
   above = s.above;
 }
 
-pub going_at : {D : Type 0} (view : D → DiskView) (host : List ℕ) (tells links : Type 0) (n last left : ℕ) (old now : DiskView) (link link' : LinkState) (counts counts' : LinkCounts) → n ≡ last → IsGoing view host tells links n left old now link link' counts counts' → IsGoing view host tells links last left old now link link' counts counts'
-going_at view host tells links n last left old now link link' counts counts' is going = subst (λ (k : ℕ). IsGoing view host tells links k left old now link link' counts counts') is going
+pub going_at : {D : Type 0} (view : D → DiskView) (host : List ℕ) (tells links : Type 0) (n last left : ℕ) (reached : Bool) (old now : DiskView) (link link' : LinkState) (counts counts' : LinkCounts) → n ≡ last → IsGoing view host tells links n left reached old now link link' counts counts' → IsGoing view host tells links last left reached old now link link' counts counts'
+going_at view host tells links n last left reached old now link link' counts counts' is going = subst (λ (k : ℕ). IsGoing view host tells links k left reached old now link link' counts counts') is going

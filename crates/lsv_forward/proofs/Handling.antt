@@ -7,14 +7,16 @@ use Rattle.lsv_disk.specs.Throughout.{OnlyReads, Throughout}
 use Rattle.lsv_disk.specs.View.{DiskView, HasOwnCause, Image}
 use Rattle.lsv_disk.specs.declared.file.Part.{Part}
 use Rattle.lsv_bundle.specs.declared.fault.BundleFault.TheVariants as bundles
-use Rattle.lsv_dialogue.specs.Ends.{Broke, Ended, FailsBy, Ran}
+use Rattle.lsv_dialogue.specs.Ends.{Ran}
 use Rattle.lsv_dialogue.specs.declared.ends.End.{End}
+use Rattle.lsv_dialogue.specs.declared.ends.End.TheVariants as ends_of
 use Rattle.lsv_dialogue.specs.declared.ends.TalkFault.{TalkFault}
 use Rattle.lsv_dialogue.specs.declared.ends.TalkFault.TheVariants as talks
 use Rattle.lsv_iolog.specs.Damage.{IsViewDamage}
 use Rattle.lsv_iolog.specs.Recovered.{IsOfLog, Replays, SameFiles}
 use Rattle.lsv_iolog.specs.declared.fault.ViewFault.TheVariants as logs
-use Rattle.lsv_kept.specs.Kept.{IsAsBefore, IsMarked, IsOfRelay, IsStateDamage, Keeps}
+use Rattle.lsv_kept.specs.Aim.{AimView}
+use Rattle.lsv_kept.specs.Kept.{IsAsBefore, IsMarked, IsMarkedAt, IsOfRelay, IsStateDamage, Keeps}
 use Rattle.lsv_kept.specs.Value.{is_done}
 use Rattle.lsv_kept.specs.declared.state.State.{State}
 use Rattle.lsv_kept.specs.declared.state.State.TheVariants as states
@@ -25,22 +27,23 @@ use Rattle.lsv_bundle.specs.Body.{encoded}
 use Rattle.lsv_bundle.specs.declared.body.Body.{Body}
 use Rattle.lsv_bundle.proofs.Laws.{one_body}
 use Rattle.lsv_link.specs.Link.{Continues, LinkCounts, LinkState, after_miss, all_of}
-use Rattle.lsv_relay.specs.Complete.{IsComplete, IsIncomplete}
-use Rattle.lsv_relay.specs.Ends.{BrokeOff, IsPlain, Took, end_of, fault_of, is_over}
+use Rattle.lsv_relay.specs.Complete.{IsComplete, IsIncomplete, IsRelayed, IsTimed}
+use Rattle.lsv_relay.specs.Ends.{Closes, IsPlain, Spoke, Talked}
 use Rattle.lsv_relay.specs.Faults.{IsLogFault, IsOpenCause, IsOpenFault}
-use Rattle.lsv_relay.specs.Talks.{IsDurable}
-use Rattle.lsv_relay.specs.Value.{IsQuiet, Stands, is_broken, judges, state_of}
+use Rattle.lsv_relay.specs.Talks.{IsDurable, Stands}
+use Rattle.lsv_relay.specs.Value.{RelayView, aim_of, is_broken, state_of}
 use Rattle.lsv_relay.specs.declared.fault.RelayFault.{RelayFault}
 use Rattle.lsv_relay.specs.declared.fault.RelayFault.TheVariants as relays
 use Rattle.lsv_relay.specs.declared.run.RelayEnd.{RelayEnd}
 use Rattle.lsv_relay.specs.declared.run.RelayEnd.TheVariants as ends
 use Rattle.lsv_forward.specs.Carried.{Carriage, Carries, InTurn, IsEnded, IsOutOfMemory, IsSure, Went, is_memory}
-use Rattle.lsv_forward.specs.Inner.{Handles, HandlesPart, IsUnopened, is_passed}
-use Rattle.lsv_forward.specs.Logs.{HasShutCause, IsAs, IsAt, IsDone, IsLeft, IsSendable, IsShut, IsUnjudged, IsUnmarked, WasAs, is_device, is_kept_damage}
+use Rattle.lsv_forward.specs.Inner.{Handles, HandlesNext, HandlesPart, IsUnopened, Judges, is_passed}
+use Rattle.lsv_forward.specs.Logs.{HasShutCause, IsAs, IsAt, IsLeft, IsSendable, IsShut, IsUnjudged, IsUnmarked, WasAs, is_device, is_kept_damage}
 use Rattle.lsv_forward.specs.Run.{IsClosed}
 use Rattle.lsv_forward.specs.declared.outcome.Outcome.{Outcome}
-use Rattle.lsv_forward.specs.declared.outcome.Outcome.TheVariants.{Marked}
-use Rattle.lsv_forward.proofs.Apart.{SameOf, complete_alone}
+use Rattle.lsv_forward.specs.declared.outcome.Outcome.TheVariants.{Marked, Untried}
+use Rattle.lsv_forward.proofs.Apart.{SameOf, complete_alone, timed_alone}
+use Rattle.lsv_relay.proofs.Opening.{relayed_of, unrelayed_of}
 use Rattle.lsv_forward.proofs.Drawing.{same_image}
 use Rattle.lsv_forward.proofs.Moments.{turn_one}
 
@@ -142,9 +145,9 @@ no_memory : (fault : RelayFault) → is_memory fault ≡ false → fault ≢ rel
 no_memory fault memory e = let x : true ≡ false = sym (ap is_memory e) ∙ memory in cc
 
 -- a mark that reads was there before
-marked_before : (tells : Type 0) (n : ℕ) (fault : RelayFault) (old new : DiskView) → Shuts tells n fault old new → tells → is_device fault ≡ false → is_memory fault ≡ false → is_kept_damage fault ≡ false → IsMarked n new.reads → IsMarked n old.reads
+marked_before : (tells : Type 0) (n : ℕ) (fault : RelayFault) (old new : DiskView) → Shuts tells n fault old new → tells → is_device fault ≡ false → is_memory fault ≡ false → is_kept_damage fault ≡ false → IsRelayed n new.reads → IsRelayed n old.reads
 marked_before tells n fault old new s told device memory kept marked =
-    subst (λ (image : Image). IsMarked n image) (same_image old new (s.reads told (log_fault fault s.word device kept) (no_memory fault memory))) marked
+    subst (λ (image : Image). IsRelayed n image) (same_image old new (s.reads told (log_fault fault s.word device kept) (no_memory fault memory))) marked
 
 module _ (undamaged : (n : ℕ) (image : Image) (part : Part) → IsStateDamage n part image → IsMarked n image → ⊥) where
   shut_unmarked : (tells : Type 0) (n : ℕ) (fault : RelayFault) (old new : DiskView) → Shuts tells n fault old new → tells → is_device fault ≡ false → is_memory fault ≡ false → is_passed fault ≡ false → IsUnmarked n old.reads
@@ -155,7 +158,7 @@ module _ (undamaged : (n : ℕ) (image : Image) (part : Part) → IsStateDamage 
   shut_unmarked tells n (relays.Log logs.NoMem) old new s told device memory passed = absurd s.word
   shut_unmarked tells n (relays.State bundles.Disk) old new s told device memory passed = absurd (cc)
   shut_unmarked tells n (relays.State bundles.Broken) old new s told device memory passed = absurd s.word
-  shut_unmarked tells n (relays.State (bundles.Damaged part)) old new s told device memory passed = let d = s.why told in record { complete = d.0; unmarked = undamaged n old.reads part d.1 }
+  shut_unmarked tells n (relays.State (bundles.Damaged part)) old new s told device memory passed = let d = s.why told in record { complete = d.0; unmarked = λ relayed. undamaged n old.reads part d.1 relayed.mark.mark }
   shut_unmarked tells n (relays.State (bundles.Full part)) old new s told device memory passed = absurd s.word
   shut_unmarked tells n (relays.State bundles.NoMem) old new s told device memory passed = absurd s.word
   shut_unmarked tells n relays.NoMem old new s told device memory passed = absurd (cc)
@@ -168,7 +171,7 @@ module _ (undamaged : (n : ℕ) (image : Image) (part : Part) → IsStateDamage 
   shut_cause tells n (relays.Log logs.NoMem) old new s memory passed = absurd s.word
   shut_cause tells n (relays.State bundles.Disk) old new s memory passed = tt
   shut_cause tells n (relays.State bundles.Broken) old new s memory passed = absurd s.word
-  shut_cause tells n (relays.State (bundles.Damaged part)) old new s memory passed = λ told. let d = s.why told in (record { complete = d.0; unmarked = undamaged n old.reads part d.1 }, d.1)
+  shut_cause tells n (relays.State (bundles.Damaged part)) old new s memory passed = λ told. let d = s.why told in (record { complete = d.0; unmarked = λ relayed. undamaged n old.reads part d.1 relayed.mark.mark }, d.1)
   shut_cause tells n (relays.State (bundles.Full part)) old new s memory passed = absurd s.word
   shut_cause tells n (relays.State bundles.NoMem) old new s memory passed = absurd s.word
   shut_cause tells n relays.NoMem old new s memory passed = absurd (cc)
@@ -182,39 +185,62 @@ module _ (undamaged : (n : ℕ) (image : Image) (part : Part) → IsStateDamage 
 
   -- ---- A log that isn't opened
 
-  pub handles_unopened : {D : Type 0} (view : D → DiskView) (host : List ℕ) (tells links : Type 0) (n : ℕ) (fault : RelayFault) (outcome : Outcome) (old new : DiskView) (link : LinkState) (counts : LinkCounts) → (tells → Throughout (IsOfRelay n) (IsAsBefore n old) old new) → Shuts tells n fault old new → IsUnopened fault outcome
-      → Handles view host tells links n outcome old new link link counts counts
-  handles_unopened view host tells links n fault outcome old new link counts opened s (whole, inl (passed, is)) = record {
-    conn = None;
-    host_is = λ told. tt;
+  pub judges_unopened : (tells : Type 0) (n : ℕ) (fault : RelayFault) (outcome : Outcome) (old new : DiskView) → (tells → Throughout (IsOfRelay n) (IsAsBefore n old) old new) → Shuts tells n fault old new → IsUnopened fault outcome → Judges tells n outcome old new
+  judges_unopened tells n fault outcome old new opened s (whole, inl (passed, is)) = record {
     was = subst (λ (o : Outcome). WasAs tells n o None old.reads) (sym is) (refl, λ told. passed_by tells n fault old new s told passed);
     is = subst (λ (o : Outcome). IsAs tells n o old new) (sym is) (λ told complete. passed_by tells n fault old new s told passed (complete_before n old new (s.touches told) complete));
-    conns = λ told. refl;
-    went = λ told. (opened told).each;
+    rests = λ told. (opened told).each;
   }
-  handles_unopened view host tells links n fault outcome old new link counts opened s (whole, inr (passed, is)) = record {
-    conn = None;
-    host_is = λ told. tt;
+  judges_unopened tells n fault outcome old new opened s (whole, inr (passed, is)) = record {
     was = subst (λ (o : Outcome). WasAs tells n o None old.reads) (sym is) (refl, shut_cause tells n fault old new s whole passed);
     is = subst (λ (o : Outcome). IsAs tells n o old new) (sym is)
         (shut_by fault tells n old new (unjudged_of fault n old new s.log s.state) (λ device told. shut_left tells n fault old new s told device whole passed));
-    conns = λ told. refl;
-    went = λ told. (opened told).each;
+    rests = λ told. (opened told).each;
   }
+
+-- and nobody was connected to
+pub handles_judged : {D : Type 0} (view : D → DiskView) (host : List ℕ) (tells links : Type 0) (n : ℕ) (outcome : Outcome) (old new : DiskView) (link : LinkState) (counts : LinkCounts) → Judges tells n outcome old new → Handles view host tells links n outcome old new link link counts counts
+handles_judged view host tells links n outcome old new link counts j = record { conn = None; host_is = λ told. tt; was = j.was; is = j.is; conns = λ told. refl; went = j.rests }
+
+nobody : IsSome {T = Connection} None → ⊥
+nobody some = absurd (cc)
+
+-- once a connection couldn't be made
+pub next_judged : {D : Type 0} (view : D → DiskView) (host : List ℕ) (tells links : Type 0) (n : ℕ) (reached : Bool) (outcome : Outcome) (old new : DiskView) (link : LinkState) (counts : LinkCounts) → reached ≡ false → Judges tells n outcome old new
+    → HandlesNext view host tells links n reached outcome old new link link counts counts
+next_judged view host tells links n reached outcome old new link counts not j = record {
+  one = record { conn = None; host_is = λ told. tt; was = j.was; is = j.is; conns = λ told. refl; went = j.rests };
+  tried = λ some. absurd (nobody some);
+  untried = λ un. not;
+}
+
+-- before that
+pub next_handled : {D : Type 0} (view : D → DiskView) (host : List ℕ) (tells links : Type 0) (n : ℕ) (reached : Bool) (outcome : Outcome) (old new : DiskView) (link link' : LinkState) (counts counts' : LinkCounts) → reached ≡ true → outcome ≢ Untried
+    → Handles view host tells links n outcome old new link link' counts counts' → HandlesNext view host tells links n reached outcome old new link link' counts counts'
+next_handled view host tells links n reached outcome old new link link' counts counts' is tried one = record { one = one; tried = λ some. is; untried = λ un. absurd (tried un) }
+
+pub if_ok_both : {T E : Type 0} (r : Result T E) (P Q R : T → Type 0) → ((x : T) → P x → Q x → R x) → IfOk r P → IfOk r Q → IfOk r R
+if_ok_both (Ok x) P Q R step p q = step x p q
+if_ok_both (Err e) P Q R step p q = tt
 
 -- ---- A log that is marked
 
 pub handles_marked : {D : Type 0} (view : D → DiskView) (host : List ℕ) (tells links : Type 0) (n : ℕ) (outcome : Outcome) (old new : DiskView) (link : LinkState) (counts : LinkCounts)
-    → (tells → Throughout (IsOfRelay n) (IsAsBefore n old) old new) → (tells → IsComplete n old.reads) → (tells → IsMarked n old.reads) → (tells → IsMarked n new.reads)
+    → (tells → Throughout (IsOfRelay n) (IsAsBefore n old) old new) → (tells → IsRelayed n old.reads) → (tells → IsRelayed n new.reads)
     → outcome ≡ Marked → Handles view host tells links n outcome old new link link counts counts
-handles_marked view host tells links n outcome old new link counts opened complete was now is = record {
+handles_marked view host tells links n outcome old new link counts opened was now is = record {
   conn = None;
   host_is = λ told. tt;
-  was = subst (λ (o : Outcome). WasAs tells n o None old.reads) (sym is) (refl, λ told. record { complete = complete told; marked = was told });
-  is = subst (λ (o : Outcome). IsAs tells n o old new) (sym is) (λ told. record { complete = complete_after n old new (bare n (IsAsBefore n old) old new (opened told)) (complete told); marked = now told });
+  was = subst (λ (o : Outcome). WasAs tells n o None old.reads) (sym is) (refl, was);
+  is = subst (λ (o : Outcome). IsAs tells n o old new) (sym is) now;
   conns = λ told. refl;
   went = λ told. (opened told).each;
 }
+
+-- ---- A log of a time
+
+pub timed_after : (n total : ℕ) (old new : DiskView) → Throughout (IsOfRelay n) (λ image. Unit {0}) old new → IsTimed n total old.reads → IsTimed n total new.reads
+timed_after n total old new run is = timed_alone n total old.reads new.reads (same_log n old new run) is
 
 -- ---- A log that was connected to
 
@@ -232,53 +258,77 @@ closed_after tells host link link' Went ran told = at (ran.added told).added whe
 
 -- a crash leaves what a whole relay keeps, if it stands on the disk and the log isn't relayed
 abbrev pub Stood : {D : Type 0} → (D → DiskView) → Carriage D → Type 0
-Stood view c = is_broken c.relay ≡ false → is_done (state_of c.relay) ≡ false → Stands c.relay (view c.disk) → IsDurable c.relay.number (state_of c.relay) (view c.disk)
+Stood view c = is_broken c.relay ≡ false → is_done (state_of c.relay) ≡ false → Stands c.relay (view c.disk) → IsDurable c.relay.number (aim_of c.relay) (state_of c.relay) (view c.disk)
 
 -- what is said of the connection that was made for the log
 pub record RanOne {D : Type 0} (view : D → DiskView) (host : List ℕ) (tells links : Type 0) (n : ℕ) (mid new : DiskView) (link link' : LinkState) (c : Carriage D) (end : Result RelayEnd RelayFault) : Type 0 where
   pub ran : Ran links host link link' (λ conn. Went tells links view c end conn)
-  pub marked : tells → IfOk end (λ e. (e ≡ ends.Done) ↔ IsMarked n new.reads)
-  pub unmarked : tells → IfErr end (λ fault. IsPlain fault → IsMarked n new.reads → ⊥)
+  pub marked : tells → IfOk end (λ e. (e ≡ ends.Done) ↔ IsMarkedAt n (aim_of c.from).total new.reads)
+  pub unmarked : tells → IfErr end (λ fault. IsPlain fault → IsMarkedAt n (aim_of c.from).total new.reads → ⊥)
   pub touches : tells → Throughout (IsOfRelay n) (λ image. Unit {0}) mid new
   pub log : HasOwnCause (IsOfLog n) (IsErrOf end (relays.Log logs.Disk)) mid new
   pub state : HasOwnCause (IsOfRelay n) (IsErrOf end (relays.State bundles.Disk)) mid new
   pub now : tells → OnlyNow new
   pub stood : Stood view c
 
+broken_apart : (b : Bool) → b ≡ true → b ≡ false → ⊥
+broken_apart b one two = let h : true ≡ false = sym one ∙ two in cc (h)
+
 -- what the relay keeps at the end of the connection stands on the disk
 module _ {D : Type 0} (tells links : Type 0) (view : D → DiskView) (c : Carriage D) (stood : Stood view c) where
-  took_durable : (events : List Event) → Took tells view c.began c.number c.state c.relay c.disk events → tells → IsDurable c.number (state_of c.relay) (view c.disk)
-  took_durable events took told = subst (λ (k : ℕ). IsDurable k (state_of c.relay) (view c.disk)) took.0.0.number (took.0.1 told).durable
+  -- as the relay of the log's beginning
+  at_from : (relay : RelayView) (disk : DiskView) (state : State) → relay.number ≡ c.from.number → aim_of relay ≡ aim_of c.from → IsDurable relay.number (aim_of relay) state disk → IsDurable c.from.number (aim_of c.from) state disk
+  at_from relay disk state number aim kept = subst (λ (k : ℕ). IsDurable k (aim_of c.from) state disk) number (subst (λ (a : AimView). IsDurable relay.number a state disk) aim kept)
 
-  durable_end : (answer : Result RelayEnd RelayFault) (conn : Connection) → Went tells links view c answer conn → tells → IsSure answer c.relay → IsDurable c.number (state_of c.relay) (view c.disk)
-  durable_end (Ok answer) conn (end, is, went) told sure = took_durable went.events went.talks told
-  durable_end (Err answer) conn (fault, is, went) told sure = failed fault went.events went.fails
+  spoke_durable : (talked : RelayView) (found : D) (events : List Event) → Spoke tells view c.began c.from talked found events → c.relay ≡ talked → c.disk ≡ found → tells → IsDurable c.from.number (aim_of c.from) (state_of c.relay) (view c.disk)
+  spoke_durable talked found events spoke relay disk told =
+      subst (λ (d : D). IsDurable c.from.number (aim_of c.from) (state_of c.relay) (view d)) (sym disk) (subst (λ (r : RelayView). IsDurable c.from.number (aim_of c.from) (state_of r) (view found)) (sym relay)
+      (at_from talked (view found) (state_of talked) spoke.0.number spoke.0.aim (spoke.1 told).durable))
+
+  by_end : (end : Result End (TalkFault RelayFault)) (answer : Result RelayEnd RelayFault) (talked : RelayView) (found : D) (conn : Connection) → Talked tells links view c.began c.from end talked found c.before c.after conn
+      → Closes tells view c.from.number end talked found answer c.relay c.disk → tells → IsSure answer c.relay → IsDurable c.from.number (aim_of c.from) (state_of c.relay) (view c.disk)
+  by_end (Ok ends_of.Over) answer talked found conn talk closed told sure = go closed.said
     where
-      failed : (f : TalkFault RelayFault) (events : List Event) → FailsBy (Took tells view c.began c.number c.state c.relay c.disk) (BrokeOff tells view c.began c.number c.state c.relay c.disk) f events
-          → IsDurable c.number (state_of c.relay) (view c.disk)
-      failed talks.NoMem events fails = took_durable events fails told
-      failed (talks.Speaker f) events fails = subst (λ (k : ℕ). IsDurable k (state_of c.relay) (view c.disk)) fails.0.number (stood sure.0 sure.1 (fails.0.stands told sure.0))
+      -- it was marked
+      go : (answer ≡ Ok ends.Done) ⊎ (answer ≡ Err relays.NoMem) ⊎ (answer ≡ Err (relays.State bundles.Disk)) → IsDurable c.from.number (aim_of c.from) (state_of c.relay) (view c.disk)
+      go (inl is) = λ image left. subst (λ (s : State). Keeps c.from.number (aim_of c.from) image s) (sym (closed.done is)) (subst (λ (a : AimView). Keeps c.from.number a image states.Done) talk.talks.0.aim (closed.durable told is image left))
+      go (inr (inl is)) = absurd (broken_apart (is_broken c.relay) (closed.broken (λ ok. let x : Ok ends.Done ≡ Err relays.NoMem = sym ok ∙ is in cc (x))) (subst (λ (r : Result RelayEnd RelayFault). IsSure r c.relay) is sure).0)
+      go (inr (inr is)) = absurd (broken_apart (is_broken c.relay) (closed.broken (λ ok. let x : Ok ends.Done ≡ Err (relays.State bundles.Disk) = sym ok ∙ is in cc (x))) (subst (λ (r : Result RelayEnd RelayFault). IsSure r c.relay) is sure).0)
+  by_end (Ok (ends_of.Stopped cause)) answer talked found conn talk closed told sure = spoke_durable talked found talk.events talk.talks closed.same.0 closed.same.1 told
+  by_end (Err talks.NoMem) answer talked found conn talk closed told sure = spoke_durable talked found talk.events talk.fails closed.same.0 closed.same.1 told
+  by_end (Err (talks.Speaker fault)) answer talked found conn talk closed told sure =
+      let whole = subst (λ (r : Result RelayEnd RelayFault). IsSure r c.relay) closed.said sure in
+      let stands : Stands c.relay (view c.disk) = subst (λ (d : D). Stands c.relay (view d)) (sym closed.same.1) (subst (λ (r : RelayView). Stands r (view found)) (sym closed.same.0) (talk.fails.stands told (ap is_broken (sym closed.same.0) ∙ whole.0))) in
+      at_from c.relay (view c.disk) (state_of c.relay) (ap (λ (r : RelayView). r.number) closed.same.0 ∙ talk.fails.number) (ap aim_of closed.same.0 ∙ talk.fails.aim) (stood whole.0 whole.1 stands)
 
-module _ {D : Type 0} (view : D → DiskView) (host : List ℕ) (tells links : Type 0) (n : ℕ) (old mid new : DiskView) (link link' : LinkState) (c : Carriage D) (of_log : c.number ≡ n) (began : view c.began ≡ mid) (ended : view c.disk ≡ new) (kept : tells → Keeps n old.reads c.state)
+  durable_end : (answer : Result RelayEnd RelayFault) (conn : Connection) → Went tells links view c answer conn → tells → IsSure answer c.relay → IsDurable c.from.number (aim_of c.from) (state_of c.relay) (view c.disk)
+  durable_end answer conn went told sure = by_end went.end answer went.talked went.found conn went.talk went.closed told sure
+
+module _ {D : Type 0} (view : D → DiskView) (host : List ℕ) (tells links : Type 0) (n : ℕ) (old mid new : DiskView) (link link' : LinkState) (c : Carriage D) (of_log : c.from.number ≡ n) (aimed : (aim_of c.from).host ≡ host) (began : view c.began ≡ mid) (ended : view c.disk ≡ new) (kept : tells → Keeps n (aim_of c.from) old.reads (state_of c.from))
     (opened : tells → Throughout (IsOfRelay n) (IsAsBefore n old) old mid) (up : (file : FileId) → old.faults file ≤ mid.faults file)
-    (complete : tells → IsComplete n old.reads) (unmarked : tells → IsMarked n old.reads → ⊥) (sound : tells → (part : Part) → IsViewDamage n part old.reads → ⊥) where
+    (timed : tells → IsTimed n (aim_of c.from).total old.reads) (unmarked : tells → IsMarkedAt n (aim_of c.from).total old.reads → ⊥) (sound : tells → (part : Part) → IsViewDamage n part old.reads → ⊥) where
   first : tells → Throughout (IsOfRelay n) (λ image. Unit {0}) old mid
   first told = bare n (IsAsBefore n old) old mid (opened told)
 
-  done_now : (tells → Throughout (IsOfRelay n) (λ image. Unit {0}) mid new) → tells → IsMarked n new.reads → IsDone n new.reads
-  done_now second told marked = record { complete = complete_after n mid new (second told) (complete_after n old mid (first told) (complete told)); marked = marked }
+  timed_now : (tells → Throughout (IsOfRelay n) (λ image. Unit {0}) mid new) → tells → IsTimed n (aim_of c.from).total new.reads
+  timed_now second told = timed_after n (aim_of c.from).total mid new (second told) (timed_after n (aim_of c.from).total old mid (first told) (timed told))
 
-  unmarked_now : (tells → Throughout (IsOfRelay n) (λ image. Unit {0}) mid new) → tells → (IsMarked n new.reads → ⊥) → IsUnmarked n new.reads
-  unmarked_now second told not = record { complete = complete_after n mid new (second told) (complete_after n old mid (first told) (complete told)); unmarked = not }
+  done_now : (tells → Throughout (IsOfRelay n) (λ image. Unit {0}) mid new) → tells → IsMarkedAt n (aim_of c.from).total new.reads → IsRelayed n new.reads
+  done_now second told marked = relayed_of n (aim_of c.from).total new.reads (timed_now second told) marked
+
+  unmarked_now : (tells → Throughout (IsOfRelay n) (λ image. Unit {0}) mid new) → tells → (IsMarkedAt n (aim_of c.from).total new.reads → ⊥) → IsUnmarked n new.reads
+  unmarked_now second told not = let t = timed_now second told in record { complete = t.complete; unmarked = unrelayed_of n (aim_of c.from).total new.reads t not }
 
   was_sendable : tells → IsSendable n old.reads
-  was_sendable told = record { unmarked = record { complete = complete told; unmarked = unmarked told }; sound = sound told }
+  was_sendable told = record { unmarked = record { complete = (timed told).complete; unmarked = unrelayed_of n (aim_of c.from).total old.reads (timed told) (unmarked told) }; sound = sound told }
 
   -- its connection
   carried : {end : Result RelayEnd RelayFault} (one : RanOne view host tells links n mid new link link' c end) (Answers : Result RelayEnd RelayFault → Type 0) → Answers end → Carries tells links view c.before c.after old new n Answers one.ran.conn
   carried {end} one Answers is = record {
     carriage = c;
     number = of_log;
+    host_is = λ told. aimed ∙ sym (one.ran.added told).is;
+    timed = timed;
     kept = kept;
     same_began = λ told. subst (λ (d : DiskView). SameFiles n old.reads d.reads) (sym began) (same_log n old mid (first told));
     same_ended = λ told. subst (λ (d : DiskView). SameFiles n old.reads d.reads) (sym ended) (λ file own. same_log n mid new (one.touches told) file own ∙ same_log n old mid (first told) file own);
@@ -288,7 +338,7 @@ module _ {D : Type 0} (view : D → DiskView) (host : List ℕ) (tells links : T
     is = is;
     went = one.ran.went;
     turn = λ told. subst (λ (d : DiskView). InTurn n old d (view c.disk) new) (sym began) (subst (λ (d : DiskView). InTurn n old mid d new) (sym ended) (turn_one n old mid new (opened told) (one.touches told) (one.now told)));
-    left = λ told sure. subst (λ (k : ℕ). IsDurable k (state_of c.relay) new) of_log (subst (λ (d : DiskView). IsDurable c.number (state_of c.relay) d) ended (durable_end tells links view c one.stood end one.ran.conn one.ran.went told sure));
+    left = λ told sure. subst (λ (k : ℕ). IsDurable k (aim_of c.from) (state_of c.relay) new) of_log (subst (λ (d : DiskView). IsDurable c.from.number (aim_of c.from) (state_of c.relay) d) ended (durable_end tells links view c one.stood end one.ran.conn one.ran.went told sure));
   }
 
   pub handles_ended : (end : Result RelayEnd RelayFault) (outcome : Outcome) → RanOne view host tells links n mid new link link' c end → IsEnded end outcome → Handles view host tells links n outcome old new link link' c.before c.after
@@ -312,7 +362,7 @@ module _ {D : Type 0} (view : D → DiskView) (host : List ℕ) (tells links : T
       risen_state : (fault : RelayFault) → HasOwnCause (IsOfRelay n) (IsErrOf {T = RelayEnd} (Err fault) (relays.State bundles.Disk)) mid new → HasOwnCause (IsOfRelay n) (fault ≡ relays.State bundles.Disk) old new
       risen_state fault cause = cause_second (IsOfRelay n) (fault ≡ relays.State bundles.Disk) old mid new up (cause_widened (IsOfRelay n) (IsOfRelay n) (IsErrOf {T = RelayEnd} (Err fault) (relays.State bundles.Disk)) (fault ≡ relays.State bundles.Disk) mid new (λ g own. own) (λ e. ap (λ (f : RelayFault). let y : Result RelayEnd RelayFault = Err f in y) e) cause)
 
-      now : (e : Result RelayEnd RelayFault) (o : Outcome) → IsEnded e o → (tells → IfOk e (λ x. (x ≡ ends.Done) ↔ IsMarked n new.reads)) → (tells → IfErr e (λ fault. IsPlain fault → IsMarked n new.reads → ⊥))
+      now : (e : Result RelayEnd RelayFault) (o : Outcome) → IsEnded e o → (tells → IfOk e (λ x. (x ≡ ends.Done) ↔ IsMarkedAt n (aim_of c.from).total new.reads)) → (tells → IfErr e (λ fault. IsPlain fault → IsMarkedAt n (aim_of c.from).total new.reads → ⊥))
           → HasOwnCause (IsOfLog n) (IsErrOf e (relays.Log logs.Disk)) mid new → HasOwnCause (IsOfRelay n) (IsErrOf e (relays.State bundles.Disk)) mid new → IsAs tells n o old new
       now (Ok ends.Done) o ended marked plain log state = subst (λ (x : Outcome). IsAs tells n x old new) (sym ended) (λ told. done_now one.touches told ((marked told).0 refl))
       now (Ok (ends.Pending cause)) o ended marked plain log state =
@@ -355,29 +405,34 @@ pub one_at : {D : Type 0} (view : D → DiskView) (host : List ℕ) (tells links
     → RanOne view host tells links n mid new link link' c end
 one_at view host tells links n m mid new link link' c end is one = subst (λ (k : ℕ). RanOne view host tells links k mid new link link' c end) is one
 
--- ---- What went over the connection
-
-module _ {D : Type 0} (tells : Type 0) (view : D → DiskView) (links : Type 0) (host : List ℕ) (link link' : LinkState) (c : Carriage D) where
-  -- the connection that was made, and what went over it
-  pub ran_so : (answer : Result RelayEnd RelayFault)
-      → IfOk answer (λ a. (end : End) × (a ≡ end_of end) × Ran links host link link' (λ conn. Ended (Took tells view c.began c.number c.state c.relay c.disk) (judges c.relay) (is_over c.relay) (IsQuiet c.relay) links c.before c.after conn end))
-      → IfErr answer (λ a. (fault : TalkFault RelayFault) × (a ≡ fault_of fault) × Ran links host link link' (λ conn. Broke (Took tells view c.began c.number c.state c.relay c.disk) (BrokeOff tells view c.began c.number c.state c.relay c.disk) links c.before c.after conn fault))
-      → Ran links host link link' (λ conn. Went tells links view c answer conn)
-  ran_so (Ok a) (end, is, ran) broke = record { conn = ran.conn; added = ran.added; went = (end, is, ran.went) }
-  ran_so (Err a) ended (fault, is, ran) = record { conn = ran.conn; added = ran.added; went = (fault, is, ran.went) }
-
 done_is : (state : State) → is_done state ≡ true → state ≡ states.Done
 done_is states.Nothing e = absurd (cc)
 done_is (states.Kept kept) e = absurd (cc)
 done_is states.Done e = refl
 
 -- what is kept of a log that is relayed is its mark
-module _ (once : (n : ℕ) (image : Image) (one two : State) → Keeps n image one → Keeps n image two → one ≡ two) (marked : (n : ℕ) (image : Image) → IsMarked n image ↔ Keeps n image states.Done) where
-  pub mark_kept : (n : ℕ) (image : Image) (state : State) → is_done state ≡ true → Keeps n image state → IsMarked n image
-  mark_kept n image state done keeps = (marked n image).1 (subst (λ (s : State). Keeps n image s) (done_is state done) keeps)
+module _ (once : (n : ℕ) (aim : AimView) (image : Image) (one two : State) → Keeps n aim image one → Keeps n aim image two → one ≡ two) (marked : (n : ℕ) (aim : AimView) (image : Image) → IsMarkedAt n aim.total image ↔ Keeps n aim image states.Done) where
+  pub mark_kept : (n : ℕ) (aim : AimView) (image : Image) (state : State) → is_done state ≡ true → Keeps n aim image state → IsMarkedAt n aim.total image
+  mark_kept n aim image state done keeps = (marked n aim image).1 (subst (λ (s : State). Keeps n aim image s) (done_is state done) keeps)
 
-  pub no_mark_kept : (n : ℕ) (image : Image) (state : State) → is_done state ≡ false → Keeps n image state → IsMarked n image → ⊥
-  no_mark_kept n image state undone keeps is = let e : is_done state ≡ true = ap is_done (once n image state states.Done keeps ((marked n image).0 is)) in cc
+  pub no_mark_kept : (n : ℕ) (aim : AimView) (image : Image) (state : State) → is_done state ≡ false → Keeps n aim image state → IsMarkedAt n aim.total image → ⊥
+  no_mark_kept n aim image state undone keeps is = let e : is_done state ≡ true = ap is_done (once n aim image state states.Done keeps ((marked n aim image).0 is)) in cc
+
+-- ---- A log that is judged alone
+
+pub judges_relayed : (tells : Type 0) (n : ℕ) (outcome : Outcome) (old new : DiskView) → (tells → Throughout (IsOfRelay n) (IsAsBefore n old) old new) → (tells → new.reads ≡ old.reads) → (tells → IsRelayed n old.reads) → outcome ≡ Marked → Judges tells n outcome old new
+judges_relayed tells n outcome old new run same was is = record {
+  was = subst (λ (o : Outcome). WasAs tells n o None old.reads) (sym is) (refl, was);
+  is = subst (λ (o : Outcome). IsAs tells n o old new) (sym is) (λ told. subst (IsRelayed n) (sym (same told)) (was told));
+  rests = λ told. (run told).each;
+}
+
+pub judges_untried : (tells : Type 0) (n : ℕ) (outcome : Outcome) (old new : DiskView) → (tells → Throughout (IsOfRelay n) (IsAsBefore n old) old new) → (tells → new.reads ≡ old.reads) → (tells → IsComplete n old.reads × (IsRelayed n old.reads → ⊥)) → outcome ≡ Untried → Judges tells n outcome old new
+judges_untried tells n outcome old new run same was is = record {
+  was = subst (λ (o : Outcome). WasAs tells n o None old.reads) (sym is) (refl, λ told. record { complete = (was told).0; unmarked = (was told).1 });
+  is = subst (λ (o : Outcome). IsAs tells n o old new) (sym is) (λ told. subst (IsUnmarked n) (sym (same told)) (record { complete = (was told).0; unmarked = (was told).1 }));
+  rests = λ told. (run told).each;
+}
 
 -- and so did both calls together
 pub touches_both : (n m : ℕ) (P : Image → Type 0) (old mid new : DiskView) → m ≡ n → Throughout (IsOfRelay n) P old mid → Throughout (IsOfRelay m) (λ image. Unit {0}) mid new → Throughout (IsOfRelay n) (λ image. Unit {0}) old new

@@ -7,7 +7,7 @@ use Rattle.lsv_link.specs.Link.{LinkState, after_miss, all_of, joined}
 use Rattle.lsv_forward.specs.Logs.{AreJoined, Handled, Joins, WasAs, WereAs}
 use Rattle.lsv_forward.specs.Run.{AreUnsent, IsClosed, IsUnsent}
 use Rattle.lsv_forward.specs.declared.outcome.Outcome.{Outcome}
-use Rattle.lsv_forward.specs.declared.outcome.Outcome.TheVariants.{Passed, Marked, Relayed, Pending, Unopened, Failed}
+use Rattle.lsv_forward.specs.declared.outcome.Outcome.TheVariants.{Passed, Marked, Relayed, Pending, Untried, Unopened, Failed}
 
 -- no connection went, none is open, and no count of missed ones fell or passed its end
 record Grows (before after : LinkState) : Type 0 where
@@ -62,6 +62,7 @@ unsent_one tells n Passed image was = tt
 unsent_one tells n Marked image was = tt
 unsent_one tells n Relayed image was = no_conn was.0
 unsent_one tells n (Pending cause) image was = no_conn was.0
+unsent_one tells n Untried image was = tt
 unsent_one tells n (Unopened fault) image was = tt
 unsent_one tells n (Failed fault) image was = no_conn was.0
 

@@ -8,7 +8,11 @@ use Rattle.lsv_disk.specs.declared.file.Owner.TheVariants as owners
 use Rattle.lsv_disk.specs.Throughout.{Throughout, Unchanged}
 use Rattle.lsv_disk.specs.View.{DiskView, Image, IsCrashImage}
 use Rattle.lsv_disk.proofs.Composition.{OnlyNow}
-use Rattle.lsv_kept.specs.Kept.{IsAsBefore, IsOfRelay, Keeps, SameFiles}
+use Rattle.lsv_bundle.specs.Shape.{journal_of}
+use Rattle.lsv_journal.specs.Last.{LastAt}
+use Rattle.lsv_journal.proofs.Laws.{own_alone, own_owner}
+use Rattle.lsv_kept.specs.Aim.{AimView}
+use Rattle.lsv_kept.specs.Kept.{IsAsBefore, IsOfRelay, Keeps, SameFiles, owner_of}
 use Rattle.lsv_kept.specs.declared.state.State.{State}
 use Rattle.lsv_kept.proofs.Unique.{keeps_alone}
 use Rattle.lsv_relay.specs.Talks.{IsDurable}
@@ -57,12 +61,16 @@ IsLocal n P = (image other : Image) → SameFiles n image other → P image → 
 back_files : (n : ℕ) (image other : Image) → SameFiles n image other → SameFiles n other image
 back_files n image other same file own = sym (same file own)
 
+last_files : (n : ℕ) (image other : Image) → SameFiles n image other → LastAt 89 (journal_of (owner_of n)) other ≡ LastAt 89 (journal_of (owner_of n)) image
+last_files n image other same = own_alone 89 (journal_of (owner_of n)) image other (λ g own. same g (own_owner (journal_of (owner_of n)) g own))
+
 as_before_local : (n : ℕ) (old : DiskView) → IsLocal n (IsAsBefore n old)
 as_before_local n old image other same a = record {
   before = a.before;
   was = a.was;
-  same = λ state keeps. keeps_alone n image other state same (a.same state keeps);
-  back = λ state keeps. a.back state (keeps_alone n other image state (back_files n image other same) keeps);
+  entry = last_files n image other same ∙ a.entry;
+  same = λ aim state keeps. keeps_alone n aim image other state same (a.same aim state keeps);
+  back = λ aim state keeps. a.back aim state (keeps_alone n aim other image state (back_files n image other same) keeps);
 }
 
 -- of the relaying's files the image has what a crash could leave on that disk
@@ -70,8 +78,9 @@ pub as_before_files : (n : ℕ) (old : DiskView) (image : Image) → IsCrashImag
 as_before_files n old image itself own = record {
   before = mix n image old.reads;
   was = mix_image n image old itself own;
-  same = λ state keeps. keeps_alone n (mix n image old.reads) image state (mix_same n image old.reads) keeps;
-  back = λ state keeps. keeps_alone n image (mix n image old.reads) state (back_files n (mix n image old.reads) image (mix_same n image old.reads)) keeps;
+  entry = last_files n (mix n image old.reads) image (mix_same n image old.reads);
+  same = λ aim state keeps. keeps_alone n aim (mix n image old.reads) image state (mix_same n image old.reads) keeps;
+  back = λ aim state keeps. keeps_alone n aim image (mix n image old.reads) state (back_files n (mix n image old.reads) image (mix_same n image old.reads)) keeps;
 }
 
 -- one that a crash could leave before such calls is one of before the calls before them
@@ -80,14 +89,15 @@ as_before_on n old now image itself earlier a =
     let b = as_before_files n old a.before itself (λ file own. earlier file own (a.before file) (a.was file)) in record {
       before = b.before;
       was = b.was;
-      same = λ state keeps. a.same state (b.same state keeps);
-      back = λ state keeps. b.back state (a.back state keeps);
+      entry = a.entry ∙ b.entry;
+      same = λ aim state keeps. a.same aim state (b.same aim state keeps);
+      back = λ aim state keeps. b.back aim state (a.back aim state keeps);
     }
 
 -- ---- Moments
 
 as_itself : (n : ℕ) (old : DiskView) (image : Image) → IsCrashImage old image → IsAsBefore n old image
-as_itself n old image is = record { before = image; was = is; same = λ state keeps. keeps; back = λ state keeps. keeps }
+as_itself n old image is = record { before = image; was = is; entry = refl; same = λ aim state keeps. keeps; back = λ aim state keeps. keeps }
 
 -- the calls on one log: it is opened, and then there is a connection
 pub turn_one : (n : ℕ) (old mid new : DiskView) → Throughout (IsOfRelay n) (IsAsBefore n old) old mid → Throughout (IsOfRelay n) (λ image. Unit {0}) mid new → OnlyNow new → InTurn n old mid new new
@@ -161,7 +171,7 @@ unchanged_start old now u = record {
 }
 
 as_start : (n : ℕ) (old now : DiskView) (image : Image) → SameStart old now → IsAsBefore n now image → IsAsBefore n old image
-as_start n old now image start a = record { before = a.before; was = start.images a.before a.was; same = a.same; back = a.back }
+as_start n old now image start a = record { before = a.before; was = start.images a.before a.was; entry = a.entry; same = a.same; back = a.back }
 
 start_point : (n : ℕ) (old now : DiskView) (k : ℕ) (image : Image) → SameStart old now → old.moment ≤ k → (k ≤ now.moment → now.crash_images_at k image) → (now.moment ≤ k → IsAsBefore n now image) → IsAsBefore n old image
 start_point n old now k image start from past each = elim (cases_lt now.moment k) [
@@ -200,7 +210,7 @@ turn_later n Touched began disk old now later laws apart run t = record {
 }
 
 -- what is kept of it is there after calls that leave its files alone
-pub durable_later : (n : ℕ) (Touched : FileId → Type 0) (state : State) (now later : DiskView) → Laws now → ((file : FileId) → IsOfRelay n file → Touched file → ⊥) → Throughout Touched (λ image. Unit {0}) now later
-    → IsDurable n state now → IsDurable n state later
-durable_later n Touched state now later laws apart run kept =
-    left_at n Touched (λ image. Keeps n image state) now later (λ image other same keeps. keeps_alone n image other state same keeps) laws apart run kept
+pub durable_later : (n : ℕ) (Touched : FileId → Type 0) (aim : AimView) (state : State) (now later : DiskView) → Laws now → ((file : FileId) → IsOfRelay n file → Touched file → ⊥) → Throughout Touched (λ image. Unit {0}) now later
+    → IsDurable n aim state now → IsDurable n aim state later
+durable_later n Touched aim state now later laws apart run kept =
+    left_at n Touched (λ image. Keeps n aim image state) now later (λ image other same keeps. keeps_alone n aim image other state same keeps) laws apart run kept

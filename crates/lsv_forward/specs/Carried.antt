@@ -1,18 +1,15 @@
 -- What went over the connections of a run.
 use Rattle.std.specs.Prelude.{◌≡◌, ◌≤◌, ℕ, suc, Bool, true, false, List, [], ◌∷◌, length, Option, Some, None, Result, Ok, Err}
-use Rattle.lsv_dialogue.specs.Ends.{Broke, Ended}
-use Rattle.lsv_dialogue.specs.declared.ends.End.{End}
-use Rattle.lsv_dialogue.specs.declared.ends.TalkFault.{TalkFault}
 use Rattle.lsv_disk.specs.View.{DiskView, Image, IsCrashImage}
 use Rattle.lsv_iolog.specs.Recovered.{SameFiles}
 use Rattle.lsv_kept.specs.Kept.{IsAsBefore, Keeps}
 use Rattle.lsv_kept.specs.Value.{is_done}
-use Rattle.lsv_kept.specs.declared.state.State.{State}
 use Rattle.lsv_link.specs.Link.{Continues, LinkCounts}
 use Rattle.lsv_link.specs.declared.connection.Connection.{Connection}
-use Rattle.lsv_relay.specs.Ends.{BrokeOff, Took, end_of, fault_of, is_over}
+use Rattle.lsv_relay.specs.Complete.{IsTimed}
+use Rattle.lsv_relay.specs.Ends as relayings
 use Rattle.lsv_relay.specs.Talks.{IsDurable}
-use Rattle.lsv_relay.specs.Value.{IsQuiet, RelayView, is_broken, judges, state_of}
+use Rattle.lsv_relay.specs.Value.{RelayView, aim_of, is_broken, state_of}
 use Rattle.lsv_relay.specs.declared.fault.RelayFault.{RelayFault}
 use Rattle.lsv_relay.specs.declared.run.RelayEnd.{RelayEnd}
 use Rattle.lsv_relay.specs.declared.run.RelayEnd.TheVariants as ends
@@ -32,22 +29,18 @@ IsEnded (Ok ends.Done) outcome = outcome ≡ Relayed
 IsEnded (Ok (ends.Pending cause)) outcome = outcome ≡ Pending cause
 IsEnded (Err fault) outcome = (is_memory fault ≡ false) × (outcome ≡ Failed fault)
 
--- a connection of log n: the disk and what was kept of the relaying when it began, the relay and the disk when it ended, and the link's counts before and after
+-- a connection of a log: the disk and the relay when it began, and when it ended, and the link's counts before and after
 pub record Carriage (D : Type 0) : Type 0 where
-  pub number : ℕ
   pub began : D
-  pub state : State
+  pub from : RelayView
   pub relay : RelayView
   pub disk : D
   pub before : LinkCounts
   pub after : LinkCounts
 
--- its conversation ended with this answer: why, and how what was read and written is what was heard and said
+-- it was answered so, and it ended so
 abbrev pub Went : {D : Type 0} → (disk_tells link_tells : Type 0) (view : D → DiskView) → Carriage D → Result RelayEnd RelayFault → Connection → Type 0
-Went disk_tells link_tells view c (Ok answer) conn =
-    (end : End) × (answer ≡ end_of end) × Ended (Took disk_tells view c.began c.number c.state c.relay c.disk) (judges c.relay) (is_over c.relay) (IsQuiet c.relay) link_tells c.before c.after conn end
-Went disk_tells link_tells view c (Err answer) conn =
-    (fault : TalkFault RelayFault) × (answer ≡ fault_of fault) × Broke (Took disk_tells view c.began c.number c.state c.relay c.disk) (BrokeOff disk_tells view c.began c.number c.state c.relay c.disk) link_tells c.before c.after conn fault
+Went disk_tells link_tells view c answer conn = relayings.Went disk_tells link_tells view c.began c.from answer c.relay c.disk c.before c.after conn
 
 -- ---- At each moment
 
@@ -76,8 +69,12 @@ IsSure (Err fault) relay = (is_broken relay ≡ false) × (is_done (state_of rel
 -- log n was sent over the connection, and it ended with such an answer. Before the run its files read as at both ends of the connection, and kept what was kept when it began. The link's counts went from these to those meanwhile
 pub record Carries {D : Type 0} (disk_tells link_tells : Type 0) (view : D → DiskView) (from to : LinkCounts) (old new : DiskView) (n : ℕ) (Answers : Result RelayEnd RelayFault → Type 0) (conn : Connection) : Type 0 where
   pub carriage : Carriage D
-  pub number : carriage.number ≡ n
-  pub kept : disk_tells → Keeps n old.reads carriage.state
+  pub number : carriage.from.number ≡ n
+  -- what is kept is of the host of the connection
+  pub host_is : link_tells → (aim_of carriage.from).host ≡ conn.host
+  -- the relaying had the log's elapsed time
+  pub timed : disk_tells → IsTimed n (aim_of carriage.from).total old.reads
+  pub kept : disk_tells → Keeps n (aim_of carriage.from) old.reads (state_of carriage.from)
   pub same_began : disk_tells → SameFiles n old.reads (view carriage.began).reads
   pub same_ended : disk_tells → SameFiles n old.reads (view carriage.disk).reads
   pub earlier : Continues from carriage.before
@@ -88,7 +85,7 @@ pub record Carries {D : Type 0} (disk_tells link_tells : Type 0) (view : D → D
   -- what was kept before the run stands up to the connection, and what was kept at its end stands after it
   pub turn : disk_tells → InTurn n old (view carriage.began) (view carriage.disk) new
   -- that is what the relay keeps
-  pub left : disk_tells → IsSure answer carriage.relay → IsDurable n (state_of carriage.relay) new
+  pub left : disk_tells → IsSure answer carriage.relay → IsDurable n (aim_of carriage.from) (state_of carriage.relay) new
 
 -- log n was sent over its connection, if one was made; else a crash leaves at each moment what one left before the run
 abbrev pub IsCarried : {D : Type 0} → (disk_tells link_tells : Type 0) (view : D → DiskView) (from to : LinkCounts) (old new : DiskView) (n : ℕ) (Answers : Result RelayEnd RelayFault → Type 0) → Option Connection → Type 0

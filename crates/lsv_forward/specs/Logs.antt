@@ -1,5 +1,5 @@
 -- What became of the logs of a store in a run, by rising number.
-use Rattle.std.specs.Prelude.{◌≡◌, ◌⊎◌, ◌+◌, ℕ, suc, Bool, true, false, if◌then◌else◌, List, [], ◌∷◌, ◌++◌, length, Option, Some, None, IfSome, IsSome, MatchBool}
+use Rattle.std.specs.Prelude.{◌≡◌, ◌⊎◌, ◌+◌, ℕ, suc, Bool, true, false, not, ◌&&◌, if◌then◌else◌, List, [], ◌∷◌, ◌++◌, length, Option, Some, None, IfSome, IsSome, MatchBool}
 use Rattle.lsv_defs.specs.Causes.{HasRisen}
 use Rattle.lsv_disk.specs.declared.file.FileId.{FileId}
 use Rattle.lsv_disk.specs.declared.file.Owner.TheVariants as owners
@@ -10,12 +10,14 @@ use Rattle.lsv_iolog.specs.Damage.{IsViewDamage}
 use Rattle.lsv_iolog.specs.declared.fault.ViewFault.TheVariants as logs
 use Rattle.lsv_link.specs.declared.connection.Connection.{Connection}
 use Rattle.lsv_link.specs.Link.{LinkState, after_miss, all_of}
-use Rattle.lsv_kept.specs.Kept.{IsMarked, IsOfRelay, IsStateDamage}
-use Rattle.lsv_relay.specs.Complete.{IsComplete, IsUnreadable}
+use Rattle.lsv_dialogue.specs.declared.ends.Cause.{Cause}
+use Rattle.lsv_dialogue.specs.declared.ends.Cause.TheVariants as causes
+use Rattle.lsv_kept.specs.Kept.{IsOfRelay, IsStateDamage}
+use Rattle.lsv_relay.specs.Complete.{IsComplete, IsRelayed, IsUnreadable}
 use Rattle.lsv_relay.specs.declared.fault.RelayFault.{RelayFault}
 use Rattle.lsv_relay.specs.declared.fault.RelayFault.TheVariants as relays
 use Rattle.lsv_forward.specs.declared.outcome.Outcome.{Outcome}
-use Rattle.lsv_forward.specs.declared.outcome.Outcome.TheVariants.{Passed, Marked, Relayed, Pending, Unopened, Failed}
+use Rattle.lsv_forward.specs.declared.outcome.Outcome.TheVariants.{Passed, Marked, Relayed, Pending, Untried, Unopened, Failed}
 
 -- what became of a log, and the connection that was made for it, if one was
 pub record Handled : Type 0 where
@@ -30,6 +32,7 @@ is_left Passed = false
 is_left Marked = false
 is_left Relayed = false
 is_left (Pending cause) = true
+is_left Untried = true
 is_left (Unopened fault) = true
 is_left (Failed fault) = true
 
@@ -55,15 +58,10 @@ AreTo host (log ∷ before) = IfSome log.conn (λ conn. conn.host ≡ host) × A
 
 -- ---- What the disk reads as
 
--- the log is complete and marked
-pub record IsDone (n : ℕ) (image : Image) : Type 0 where
-  pub complete : IsComplete n image
-  pub marked : IsMarked n image
-
 -- the log is complete and not marked
 pub record IsUnmarked (n : ℕ) (image : Image) : Type 0 where
   pub complete : IsComplete n image
-  pub unmarked : IsMarked n image → ⊥
+  pub unmarked : IsRelayed n image → ⊥
 
 -- the log is complete and not marked, and its files and its head are sound
 pub record IsSendable (n : ℕ) (image : Image) : Type 0 where
@@ -94,7 +92,7 @@ is_kept_damage _ = false
 -- the log is complete and not marked. If what is kept of its relaying is damaged, its moments alone say of marks: a crash leaves none but where one left it before
 pub record IsLeft (n : ℕ) (fault : RelayFault) (image : Image) : Type 0 where
   pub complete : IsComplete n image
-  pub unmarked : is_kept_damage fault ≡ false → IsMarked n image → ⊥
+  pub unmarked : is_kept_damage fault ≡ false → IsRelayed n image → ⊥
 
 -- so is a log that this fault kept from being opened, unless it couldn't be judged
 abbrev pub IsShut : (disk_tells : Type 0) → ℕ → RelayFault → (old new : DiskView) → Type 0
@@ -103,9 +101,10 @@ IsShut disk_tells n fault old new = MatchBool (is_device fault) (IsUnjudged n ol
 -- after the run, a log with this outcome reads so: it isn't complete; it is complete and marked, or not marked; or it couldn't be judged
 abbrev pub IsAs : (disk_tells : Type 0) → ℕ → Outcome → (old new : DiskView) → Type 0
 IsAs disk_tells n Passed old new = disk_tells → IsComplete n new.reads → ⊥
-IsAs disk_tells n Marked old new = disk_tells → IsDone n new.reads
-IsAs disk_tells n Relayed old new = disk_tells → IsDone n new.reads
+IsAs disk_tells n Marked old new = disk_tells → IsRelayed n new.reads
+IsAs disk_tells n Relayed old new = disk_tells → IsRelayed n new.reads
 IsAs disk_tells n (Pending cause) old new = disk_tells → IsUnmarked n new.reads
+IsAs disk_tells n Untried old new = disk_tells → IsUnmarked n new.reads
 IsAs disk_tells n (Unopened fault) old new = IsShut disk_tells n fault old new
 IsAs disk_tells n (Failed fault) old new = IsAt disk_tells n fault old new
 
@@ -117,12 +116,13 @@ HasShutCause disk_tells n (relays.Log logs.Disk) image = Unit {0}
 HasShutCause disk_tells n (relays.State bundles.Disk) image = Unit {0}
 HasShutCause disk_tells n _ image = ⊥
 
--- before the run it read so, and it was connected to exactly if it was complete, not marked and sound, and what was kept of it could be read
+-- before the run it read so, and unless no further one was tried it was connected to exactly if it was complete, not marked and sound, and what was kept of it could be read
 abbrev pub WasAs : (disk_tells : Type 0) → ℕ → Outcome → Option Connection → Image → Type 0
 WasAs disk_tells n Passed conn image = (conn ≡ None) × (disk_tells → IsComplete n image → ⊥)
-WasAs disk_tells n Marked conn image = (conn ≡ None) × (disk_tells → IsDone n image)
+WasAs disk_tells n Marked conn image = (conn ≡ None) × (disk_tells → IsRelayed n image)
 WasAs disk_tells n Relayed conn image = IsSome conn × (disk_tells → IsSendable n image)
 WasAs disk_tells n (Pending cause) conn image = IsSome conn × (disk_tells → IsSendable n image)
+WasAs disk_tells n Untried conn image = (conn ≡ None) × (disk_tells → IsUnmarked n image)
 WasAs disk_tells n (Unopened fault) conn image = (conn ≡ None) × HasShutCause disk_tells n fault image
 WasAs disk_tells n (Failed fault) conn image = IsSome conn × (disk_tells → IsSendable n image)
 
@@ -135,3 +135,24 @@ AreAs disk_tells (log ∷ before) old new = IsAs disk_tells (suc (length before)
 abbrev pub WereAs : (disk_tells : Type 0) → List Handled → Image → Type 0
 WereAs disk_tells [] image = Unit {0}
 WereAs disk_tells (log ∷ before) image = WasAs disk_tells (suc (length before)) log.outcome log.conn image × WereAs disk_tells before image
+
+-- ---- Once a connection couldn't be made
+
+abbrev pub is_cut : Cause → Bool
+is_cut causes.Unreached = true
+is_cut _ = false
+
+-- a connection for this log couldn't be made
+abbrev pub is_unreached : Outcome → Bool
+is_unreached (Pending cause) = is_cut cause
+is_unreached _ = false
+
+-- each connection was made
+abbrev pub are_reached : List Handled → Bool
+are_reached [] = true
+are_reached (log ∷ before) = are_reached before && not (is_unreached log.outcome)
+
+-- after one that couldn't be made no further log was connected to, and before it none was left out
+abbrev pub AreTried : List Handled → Type 0
+AreTried [] = Unit {0}
+AreTried (log ∷ before) = (IsSome log.conn → are_reached before ≡ true) × (log.outcome ≡ Untried → are_reached before ≡ false) × AreTried before

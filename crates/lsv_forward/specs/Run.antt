@@ -7,12 +7,12 @@ use Rattle.lsv_link.specs.Link.{LinkCounts, LinkState, after_close}
 use Rattle.lsv_link.specs.declared.connection.Connection.{Connection}
 use Rattle.lsv_kept.specs.Kept.{IsAsBefore, IsOfRelay}
 use Rattle.lsv_forward.specs.Carried.{AreCarried, AtEach, IsCarried, IsOutOfMemory}
-use Rattle.lsv_forward.specs.Logs.{AreAs, AreJoined, AreTo, Handled, Joins, WereAs, left_in}
+use Rattle.lsv_forward.specs.Logs.{AreAs, AreJoined, AreTo, AreTried, Handled, Joins, WereAs, left_in}
 use Rattle.lsv_forward.specs.Numbers.{HasNumbersCause, last_number}
 use Rattle.lsv_forward.specs.declared.fault.ForwardFault.{ForwardFault}
 use Rattle.lsv_forward.specs.declared.fault.ForwardFault.TheVariants.{Numbers, NoMem}
 use Rattle.lsv_forward.specs.declared.outcome.Outcome.{Outcome}
-use Rattle.lsv_forward.specs.declared.outcome.Outcome.TheVariants.{Passed, Marked, Relayed, Pending, Unopened, Failed}
+use Rattle.lsv_forward.specs.declared.outcome.Outcome.TheVariants.{Passed, Marked, Relayed, Pending, Untried, Unopened, Failed}
 
 -- the file is one of what is kept of the relaying of a log
 abbrev pub IsOfRelays : FileId → Type 0
@@ -26,6 +26,7 @@ pub record Forwards {D : Type 0} (view : D → DiskView) (host : List ℕ) (disk
   pub were : WereAs disk_tells logs old.reads
   pub are : AreAs disk_tells logs old new
   pub left_is : left ≡ left_in logs
+  pub tried : AreTried logs
   pub hosts : link_tells → AreTo host logs
   pub conns : link_tells → AreJoined logs (after_close link) link'
   pub went : AreCarried disk_tells link_tells view counts counts' old new logs
@@ -37,6 +38,7 @@ pub record Stops {D : Type 0} (view : D → DiskView) (host : List ℕ) (disk_te
   pub logs : List Handled
   pub were : WereAs disk_tells logs old.reads
   pub are : AreAs disk_tells logs old new
+  pub tried : AreTried logs
   pub went : AreCarried disk_tells link_tells view counts counts' old new logs
   -- the connection of the last one, if one was made
   pub conn : Option Connection
@@ -51,6 +53,7 @@ IsUnsent Passed = Unit {0}
 IsUnsent Marked = Unit {0}
 IsUnsent Relayed = ⊥
 IsUnsent (Pending cause) = ⊥
+IsUnsent Untried = Unit {0}
 IsUnsent (Unopened fault) = Unit {0}
 IsUnsent (Failed fault) = ⊥
 

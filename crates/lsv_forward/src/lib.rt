@@ -3,6 +3,7 @@
 
 mod fault;
 mod forward;
+mod gaps;
 mod laws;
 mod notices;
 mod numbers;
@@ -10,6 +11,7 @@ mod outcome;
 
 pub use fault::{ForwardFault, NumbersFault};
 pub use forward::forward_logs;
+pub use gaps::Gaps;
 pub use laws::a_log_that_is_sent_is_connected_to;
 pub use notices::RelayNotices;
 pub use outcome::Outcome;

@@ -1,7 +1,11 @@
-use Rattle.lsv_forward.proofs.Going.{IsGoing}
+use Rattle.std.proofs.Common.{◌-◌}
+use Rattle.lsv_forward.proofs.Going.{IsRunning}
 use Rattle.lsv_forward.proofs.forward.forward_to.Given as goal
 
 -- the logs so far were handled
-abbrev pub invariant-loop-before : goal.invariant-loop-before
-invariant-loop-before g l =
-    IsGoing g.D.Disk.view l.host g.D.Disk.tells g.L.Link.tells l.before l.left (g.D.Disk.view l.initial.disk) (g.D.Disk.view l.disk) (g.L.Link.state l.initial.link) (g.L.Link.state l.link) (g.L.Link.counts l.initial.link) (g.L.Link.counts l.link)
+abbrev pub invariant-numbers : goal.invariant-numbers
+invariant-numbers g l =
+    IsRunning g.D.Disk.view l.fn.host g.D.Disk.tells g.L.Link.tells l.fn.last l.before l.left l.reached (g.D.Disk.view l.fn.disk) (g.D.Disk.view l.disk) (g.L.Link.state l.fn.link) (g.L.Link.state l.link) (g.L.Link.counts l.fn.link) (g.L.Link.counts l.link)
+
+abbrev pub decreases-numbers : goal.decreases-numbers
+decreases-numbers g l = l.fn.last - l.before
