@@ -1,9 +1,8 @@
 -- A batch of records that is said, and an ending that follows it.
-use Rattle.std.proofs.Common.{◌≡◌, ◌∙◌, ◌++◌, ◌∷◌, ◌+◌, ◌≤◌, ◌^◌, ◌⊎◌, inl, inr, ℕ, Bool, true, false, nat_eq, List, [], length, map, refl, sym, ap, subst, append-nil, arith, Option, Some, None, Result, Ok, Err, IfErr, IsTrue}
+use Rattle.std.proofs.Common.{◌≡◌, ◌∙◌, ◌++◌, ◌∷◌, ◌+◌, ◌<◌, ◌≤◌, ◌^◌, ◌⊎◌, inl, inr, ℕ, Bool, true, false, nat_eq, List, [], length, map, refl, sym, ap, subst, append-nil, arith, Option, Some, None, Result, Ok, Err, IfErr, IsTrue}
 use Rattle.std.specs.Prelude.{min, ◌-◌}
 use Rattle.lsv_bundle.specs.declared.body.Body.{Body}
 use Rattle.lsv_dialogue.specs.Events.{Event, all_said, heard}
-use Rattle.lsv_dialogue.proofs.StandLemmas.{empty_by}
 use Rattle.lsv_disk.specs.Throughout.{OnlyReads}
 use Rattle.lsv_disk.specs.View.{DiskView, Image}
 use Rattle.lsv_disk.specs.declared.file.Part.{Part}
@@ -28,6 +27,7 @@ use Rattle.lsv_send.specs.Talks.{Ends, IsOf, Start, Told, most_of}
 use Rattle.lsv_send.specs.declared.sender.Sender.{Sender}
 use Rattle.lsv_send.specs.declared.sender.Place.{Place}
 use Rattle.lsv_send.specs.declared.sender.Place.TheVariants.{Opening, Closing, Over}
+use Rattle.lsv_send.proofs.Exits.{empty_by}
 use Rattle.lsv_send.proofs.Telling.{can_begin, can_stand, is_done_soon, laid_here, taken_past, taken_whole, told_ending, told_opening, told_over, told_silent}
 
 -- ---- whether there is a message
@@ -44,33 +44,33 @@ more_none : (more : List Record) → [] ≡ map record_message more → more ≡
 more_none [] is = refl
 more_none (r ∷ more) is = absurd cc
 
-most_some : (stop : Option ℕ) → most_of stop ≡ 0 → ⊥
-most_some None is = omega (arith, is)
-most_some (Some time) is = omega (arith, is)
+most_some : (stop : Option ℕ) (room : ℕ) → 0 < room → most_of stop room ≡ 0 → ⊥
+most_some None room some is = omega (arith, some, is)
+most_some (Some time) room some is = omega (arith, is)
 
 -- there is no record, so all were said
-pub whole_taken : (start : Start) (s : Sender) (log : ViewState) (disk mid : DiskView) (events : List Event) (batch : Batch) (most : ℕ) → IsOf start.source s → CanRecord s.place s.known → log.number ≡ s.log.number → log.body ≡ s.log.body
-    → OnlyReads disk mid → ((records : List Record) → IsBehind s.log records disk → GivesNext log mid records batch most) → most ≡ most_of s.stop → batch.messages ≡ [] → (t : Told start s disk events)
+pub whole_taken : (start : Start) (s : Sender) (log : ViewState) (disk mid : DiskView) (events : List Event) (batch : Batch) (room most : ℕ) → 0 < room → IsOf start.source s → CanRecord s.place s.known → log.number ≡ s.log.number → log.body ≡ s.log.body
+    → OnlyReads disk mid → ((records : List Record) → IsBehind s.log records disk → GivesNext log mid records batch most) → most ≡ most_of s.stop room → batch.messages ≡ [] → (t : Told start s disk events)
     → AreTaken (laid_at start.source.number start.source.body start.disk.reads) start.source.body (stop_of start.source.what) (start.source.skipped ++ t.hands.more)
-whole_taken start s log disk mid events batch most is can number body reads gives most_is none t =
+whole_taken start s log disk mid events batch room most some is can number body reads gives most_is none t =
     let records = start.source.skipped ++ t.hands.more in
     let g = gives records (can_stand s.place s.known s.log records disk can t.stands) in
     let all = reads_trans start.disk disk mid t.reads reads in
     let no_more : g.more ≡ [] = more_none g.more (sym none ∙ g.messages_are) in
     let behind : IsBehind log records mid = subst (λ (rs : List Record). IsBehind log rs mid) (ap (λ (rs : List Record). records ++ rs) no_more ∙ append-nil records) g.behind in
-    let whole : IsWhole log records mid = elim (g.end none) [ inl zero ↦ absurd (most_some s.stop (sym most_is ∙ zero)) | inr whole ↦ whole ] in
+    let whole : IsWhole log records mid = elim (g.end none) [ inl zero ↦ absurd (most_some s.stop room some (sym most_is ∙ zero)) | inr whole ↦ whole ] in
     taken_whole start.source (stop_of start.source.what) log start.disk mid records (number ∙ is.number) (body ∙ is.body) all behind whole
 
 -- the next record ends after the stop, so all up to it were said
-pub past_taken : (start : Start) (s : Sender) (log : ViewState) (disk mid : DiskView) (events : List Event) (batch : Batch) (most through : ℕ) → IsOf start.source s → CanRecord s.place s.known → log.number ≡ s.log.number → log.body ≡ s.log.body
-    → OnlyReads disk mid → ((records : List Record) → IsBehind s.log records disk → GivesNext log mid records batch most) → most ≡ most_of s.stop → length batch.messages ≤ most → (batch.messages ≡ [] → ⊥) → through ≡ min (s.sent + batch.elapsed) (2 ^ 64 - 1) → IsPast s.stop through → (t : Told start s disk events)
+pub past_taken : (start : Start) (s : Sender) (log : ViewState) (disk mid : DiskView) (events : List Event) (batch : Batch) (room most through : ℕ) → IsOf start.source s → CanRecord s.place s.known → log.number ≡ s.log.number → log.body ≡ s.log.body
+    → OnlyReads disk mid → ((records : List Record) → IsBehind s.log records disk → GivesNext log mid records batch most) → most ≡ most_of s.stop room → length batch.messages ≤ most → (batch.messages ≡ [] → ⊥) → through ≡ min (s.sent + batch.elapsed) (2 ^ 64 - 1) → IsPast s.stop through → (t : Told start s disk events)
     → AreTaken (laid_at start.source.number start.source.body start.disk.reads) start.source.body (stop_of start.source.what) (start.source.skipped ++ t.hands.more)
-past_taken start s log disk mid events batch most through is can number body reads gives most_is few some sum past t =
+past_taken start s log disk mid events batch room most through is can number body reads gives most_is few some sum past t =
     let records = start.source.skipped ++ t.hands.more in
     let g = gives records (can_stand s.place s.known s.log records disk can t.stands) in
     let all = reads_trans start.disk disk mid t.reads reads in
     subst (λ (o : Option ℕ). AreTaken (laid_at start.source.number start.source.body start.disk.reads) start.source.body o records) is.stop
-    (taken_past start.source s.stop log start.disk mid records batch most through s.sent (number ∙ is.number) (body ∙ is.body) all g (omega (arith, few, most_is)) some t.sent sum past)
+    (taken_past start.source s.stop log start.disk mid records batch room most through s.sent (number ∙ is.number) (body ∙ is.body) all g (omega (arith, few, most_is)) some t.hands.sent sum past)
 
 -- an ending follows
 pub told_end : (start : Start) (s new : Sender) (log : ViewState) (disk mid later : DiskView) (events : List Event) (ms : List ClientMessage) → IsOf start.source s → CanRecord s.place s.known → log.number ≡ s.log.number → log.body ≡ s.log.body

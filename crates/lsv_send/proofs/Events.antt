@@ -1,8 +1,7 @@
 -- What was heard and said, piece by piece.
-use Rattle.std.proofs.Common.{◌≡◌, ◌∙◌, ◌++◌, ◌∷◌, ◌||◌, ℕ, Bool, true, false, List, [], refl, ap, append-nil, Option, Some, None}
+use Rattle.std.proofs.Common.{◌≡◌, ◌∙◌, ◌++◌, ◌∷◌, ◌||◌, ◌+◌, ◌<◌, ◌≤◌, ◌⊎◌, inl, inr, ℕ, Bool, true, false, List, [], length, refl, ap, append-nil, arith, Option, Some, None}
 use Rattle.std.specs.List.{list_any}
-use Rattle.lsv_dialogue.specs.Events.{Event, Event.Heard, Event.Late, Event.Said, all_said, as_late, heard, said}
-use Rattle.lsv_dialogue.proofs.EventLemmas.{heard_append, heard_got, said_append, said_got}
+use Rattle.lsv_dialogue.specs.Events.{Event, Event.Heard, Event.Late, Event.Said, HasPaused, all_said, as_late, heard, said, said_since}
 use Rattle.lsv_info.specs.declared.times.Exit.{Exit}
 use Rattle.lsv_msg.specs.declared.messages.ClientMessage.{ClientMessage}
 use Rattle.lsv_msg.specs.declared.messages.ServerMessage.{ServerMessage}
@@ -12,6 +11,28 @@ use Rattle.lsv_send.specs.Handing.{HasWaited, has_rest}
 use Rattle.lsv_send.specs.Reached.{commits, reached_by}
 use Rattle.lsv_send.specs.declared.sender.Place.{Place}
 use Rattle.lsv_send.specs.declared.sender.Place.TheVariants.{Opening, Waiting, Records, Closing, Over}
+
+-- ---- Appended
+
+said_append : (xs ys : List Event) → said (xs ++ ys) ≡ said xs ++ said ys
+said_append [] ys = refl
+said_append (Heard m ∷ xs) ys = said_append xs ys
+said_append (Said m ∷ xs) ys = ap (λ (ms : List ClientMessage). m ∷ ms) (said_append xs ys)
+said_append (Late m ∷ xs) ys = said_append xs ys
+
+heard_append : (xs ys : List Event) → heard (xs ++ ys) ≡ heard xs ++ heard ys
+heard_append [] ys = refl
+heard_append (Heard m ∷ xs) ys = ap (λ (ms : List ServerMessage). m ∷ ms) (heard_append xs ys)
+heard_append (Said m ∷ xs) ys = heard_append xs ys
+heard_append (Late m ∷ xs) ys = ap (λ (ms : List ServerMessage). m ∷ ms) (heard_append xs ys)
+
+said_all : (ms : List ClientMessage) → said (all_said ms) ≡ ms
+said_all [] = refl
+said_all (m ∷ ms) = ap (λ (xs : List ClientMessage). m ∷ xs) (said_all ms)
+
+heard_none : (ms : List ClientMessage) → heard (all_said ms) ≡ []
+heard_none [] = refl
+heard_none (m ∷ ms) = heard_none ms
 
 pub or_false : (b : Bool) → (b || false) ≡ b
 or_false true = refl
@@ -62,16 +83,44 @@ pub reached_said : (time : ℕ) (events : List Event) (m : ClientMessage) (ms : 
 reached_said time events m ms = reached_append time false events (all_said (m ∷ ms)) ∙ reached_none time ms
 
 pub said_more : (events : List Event) (ms : List ClientMessage) → said (events ++ all_said ms) ≡ said events ++ ms
-said_more events ms = said_append events (all_said ms) ∙ ap (λ (xs : List ClientMessage). said events ++ xs) (said_got None ms)
+said_more events ms = said_append events (all_said ms) ∙ ap (λ (xs : List ClientMessage). said events ++ xs) (said_all ms)
 
 pub heard_same : (events : List Event) (ms : List ClientMessage) → heard (events ++ all_said ms) ≡ heard events
-heard_same events ms = heard_append events (all_said ms) ∙ ap (λ (xs : List ServerMessage). heard events ++ xs) (heard_got None ms) ∙ append-nil (heard events)
+heard_same events ms = heard_append events (all_said ms) ∙ ap (λ (xs : List ServerMessage). heard events ++ xs) (heard_none ms) ∙ append-nil (heard events)
 
 pub said_one : (events : List Event) (m : ServerMessage) → said (events ++ Heard m ∷ []) ≡ said events
 said_one events m = said_append events (Heard m ∷ []) ∙ append-nil (said events)
 
 pub heard_one : (events : List Event) (m : ServerMessage) → heard (events ++ Heard m ∷ []) ≡ heard events ++ m ∷ []
 heard_one events m = heard_append events (Heard m ∷ [])
+
+pub said_late : (events : List Event) (m : ServerMessage) → said (events ++ as_late m) ≡ said events
+said_late events m = said_append events (as_late m) ∙ append-nil (said events)
+
+pub heard_late : (events : List Event) (m : ServerMessage) → heard (events ++ as_late m) ≡ heard events ++ m ∷ []
+heard_late events m = heard_append events (as_late m)
+
+-- ---- After the last one that was heard
+
+since_few : (many : ℕ) (events : List Event) → said_since many events ≤ many + length (said events)
+since_few many [] = omega arith
+since_few many (Heard m ∷ events) = let rest = since_few 0 events in omega (arith, rest)
+since_few many (Said m ∷ events) = let rest = since_few (many + 1) events in omega (arith, rest)
+since_few many (Late m ∷ events) = let rest = since_few 0 events in omega (arith, rest)
+
+-- where something was said since, no such commit point came after it
+since_none : (time many : ℕ) (b : Bool) (events : List Event) → (0 < many → b ≡ false) → 0 < said_since many events → reached_by time b events ≡ false
+since_none time many b [] was some = was some
+since_none time many b (Heard m ∷ events) was some = since_none time 0 (b || commits time m) events (λ no. absurd (omega (arith, no))) some
+since_none time many b (Said m ∷ events) was some = since_none time (many + 1) false events (λ more. refl) some
+since_none time many b (Late m ∷ events) was some = since_none time 0 b events (λ no. absurd (omega (arith, no))) some
+
+-- nothing more may be said; or many messages were said, and no commit point came after the last one
+pub paused_by : (quiet : Type 0) (time : ℕ) (events : List Event) → HasPaused quiet events → quiet ⊎ ((16 ≤ length (said events)) × (reached_by time false events ≡ false))
+paused_by quiet time events (inl is) = inl is
+paused_by quiet time events (inr many) = let few = since_few 0 events in inr (omega (arith, many, few), since_none time 0 false events (λ no. refl) (omega (arith, many)))
+
+-- ---- What follows the opening
 
 pub rest_some : (xs : List Record) (r : Record) (ys : List Record) (exit : Option Exit) → true ≡ has_rest (xs ++ r ∷ ys) exit
 rest_some [] r ys exit = refl

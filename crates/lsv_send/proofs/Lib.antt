@@ -1,8 +1,14 @@
 pub mod Batches
 pub mod Events
+pub mod Exits
+pub mod Held
+pub mod Looking
+pub mod Manners
 pub mod Opened
 pub mod Running
+pub mod Shown
 pub mod Stepping
+pub mod Storable
 pub mod Stored
 pub mod Talking
 pub mod Telling

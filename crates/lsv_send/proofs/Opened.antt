@@ -8,7 +8,8 @@ use Rattle.lsv_disk.specs.declared.file.Part.{Part}
 use Rattle.lsv_iolog.specs.Damage.{IsViewDamage}
 use Rattle.lsv_iolog.specs.Faults.{of_view}
 use Rattle.lsv_iolog.specs.Reading.{ViewState, committed_laid}
-use Rattle.lsv_iolog.specs.Recovered.{Replays}
+use Rattle.lsv_bundle.specs.Committed.{HasEntry}
+use Rattle.lsv_iolog.specs.Recovered.{Replays, owner_of}
 use Rattle.lsv_iolog.specs.declared.fault.LogFault.{LogFault}
 use Rattle.lsv_iolog.specs.declared.fault.LogFault.TheVariants as logs
 use Rattle.lsv_iolog.specs.declared.fault.ViewFault.{ViewFault}
@@ -64,6 +65,7 @@ resumed_opens what n log old later goes stop s is opened r = record {
   sent = r.sent ∙ ends_there r.skipped goes.point r.skips;
   known = r.known;
   more = r.more;
+  exited = r.exited;
   reached = r.reached;
 }
 
@@ -104,19 +106,20 @@ resumed_not what n log old mid goes stop (logs.TooLong point) is opened number r
 abbrev pub source_of : (what : Sending) (n : ℕ) (s : Sender) (skipped : List Record) → Source
 source_of what n s skipped = record { what = what; number = n; head = s.log.head; body = s.log.body; skipped = skipped }
 
-pub ready_over : (what : Sending) (n : ℕ) (before after : DiskView) (s : Sender) → IsNew what n s → (o : Opens what n before after s) → IsReadyOver (source_of what n s o.skipped) s after
-ready_over what n before after s new o = record {
+pub ready_over : (what : Sending) (n : ℕ) (before after : DiskView) (s : Sender) → OnlyReads before after → IsNew what n s → (o : Opens what n before after s) → IsReadyOver (source_of what n s o.skipped) s after
+ready_over what n before after s reads new o = record {
   is = record { begins = o.begins; stop = o.stop; number = new.number; body = refl };
   behind = o.behind;
   opening = o.opening;
   sent = o.sent;
+  cuts = (s.log.body, subst (λ (i : Image). HasEntry (owner_of n) s.log.body i) (sym (same_image before after reads)) o.opened.entry, refl);
 }
 
-pub ready_by : (tells : Type 0) (what : Sending) (n : ℕ) (before after : DiskView) (s : Sender) → IsNew what n s → (tells → Opens what n before after s) → IsReady tells s after
-ready_by tells what n before after s new opens = record {
+pub ready_by : (tells : Type 0) (what : Sending) (n : ℕ) (before after : DiskView) (s : Sender) → (tells → OnlyReads before after) → IsNew what n s → (tells → Opens what n before after s) → IsReady tells s after
+ready_by tells what n before after s reads new opens = record {
   what = what;
-  new = record { number = refl; begins = new.begins; stop = new.stop; opening = new.opening; place = new.place; known = new.known; more = new.more; reached = new.reached };
-  over = λ d. let o = opens d in (source_of what n s o.skipped, ready_over what n before after s new o);
+  new = record { number = refl; begins = new.begins; stop = new.stop; opening = new.opening; place = new.place; known = new.known; more = new.more; exited = new.exited; reached = new.reached };
+  over = λ d. let o = opens d in (source_of what n s o.skipped, ready_over what n before after s (reads d) new o);
 }
 
 -- what was asked for is done

@@ -386,7 +386,7 @@ sent_at source image far events records exit h f over there =
     let some : is_some_message f.p.plan.transcript.rest ≡ has_rest h.more h.exit = ap is_some_message rest ∙ rest_is h.more h.exit in record {
       said_is = h.said_is ∙ ap (λ (q : Place). said_at q (opening_of source.what source.head) h.more h.exit) over ∙ ap (λ (o : List ClientMessage). o ++ rest_of h.more h.exit) (sym f.p.opening)
           ∙ ap (λ (r : List ClientMessage). f.p.plan.transcript.opening ++ r) (sym rest);
-      aim = λ is. ap (λ (time : ℕ). reached_by time false events) (f.p.aim ∙ aim_there source image records h.more h.exit exit f h.within says (sym some ∙ is)) ∙ sym h.reached
+      aim = λ is. ap (λ (time : ℕ). reached_by time false events) (f.p.aim ∙ aim_there source image records h.more h.exit exit f h.within says (sym some ∙ is) ∙ sym h.sent) ∙ sym h.reached
           ∙ reached_is far.rest far.reached there (h.rest ∙ sym some ∙ is);
       id = λ none waits. waited (waits_begin source.what (sym f.p.waits ∙ waits));
     }

@@ -5,7 +5,6 @@ use Rattle.std.specs.List.{list_any}
 use Rattle.std.proofs.lemmas.List.{map-append}
 use Rattle.lsv_bundle.specs.declared.body.Body.{Body}
 use Rattle.lsv_dialogue.specs.Events.{Event, Event.Heard, all_said, as_late, heard, said}
-use Rattle.lsv_dialogue.proofs.EventLemmas.{heard_late, said_late}
 use Rattle.lsv_disk.specs.Throughout.{OnlyReads}
 use Rattle.lsv_disk.specs.View.{DiskView, Image}
 use Rattle.lsv_disk.proofs.Composition.{reads_trans}
@@ -35,13 +34,16 @@ use Rattle.lsv_send.specs.Talks.{Ends, IsOf, StandsAt, Start, Told, far_of, most
 use Rattle.lsv_send.specs.declared.sender.Place.{Place}
 use Rattle.lsv_send.specs.declared.sender.Place.TheVariants.{Opening, Waiting, Records, Closing, Over}
 use Rattle.lsv_send.specs.declared.sender.Sender.{Sender}
-use Rattle.lsv_send.proofs.Events.{any_snoc, heard_one, heard_same, reached_heard, reached_late, reached_said, rest_some, said_more, said_one, waited_more}
+use Rattle.lsv_send.proofs.Events.{any_snoc, heard_late, heard_one, heard_same, reached_heard, reached_late, reached_said, rest_some, said_late, said_more, said_one, waited_more}
 
 -- ---- a message is heard
 
-abbrev hands_heard : (source : Source) (image : Image) (far : Far) (events : List Event) (m : ServerMessage) (sent : ℕ) (h : HandsOut source image far events) → sent ≡ elapsed (source.skipped ++ h.more)
-    → HandsOut source image (record { place = far.place; known = far.known || is_id m; rest = far.rest; reached = far.reached || commits sent m }) (events ++ Heard m ∷ [])
-hands_heard source image far events m sent h time = record {
+-- how far it is after a message
+abbrev pub far_heard : ServerMessage → Far → Far
+far_heard m far = record { place = far.place; known = far.known || is_id m; sent = far.sent; rest = far.rest; exited = far.exited; reached = far.reached || commits far.sent m }
+
+abbrev pub hands_heard : (source : Source) (image : Image) (far : Far) (events : List Event) (m : ServerMessage) → HandsOut source image far events → HandsOut source image (far_heard m far) (events ++ Heard m ∷ [])
+hands_heard source image far events m h = record {
   more = h.more;
   exit = h.exit;
   begins = h.begins;
@@ -50,23 +52,28 @@ hands_heard source image far events m sent h time = record {
   said_is = said_one events m ∙ h.said_is;
   waited = subst (HasWaited far.place (begins_of source.what)) (sym (heard_one events m)) (waited_more far.place (begins_of source.what) (heard events) (m ∷ []) h.waited);
   known = ap (λ (b : Bool). b || is_id m) h.known ∙ sym (any_snoc is_id (heard events) m) ∙ ap (list_any is_id) (sym (heard_one events m));
+  sent = h.sent;
   rest = h.rest;
-  reached = ap (λ (b : Bool). b || commits sent m) h.reached ∙ ap (λ (t : ℕ). reached_by (elapsed (source.skipped ++ h.more)) false events || commits t m) time ∙ sym (reached_heard (elapsed (source.skipped ++ h.more)) events m);
+  exited = h.exited;
+  reached = ap (λ (b : Bool). b || commits far.sent m) h.reached ∙ sym (reached_heard far.sent events m);
 }
 
 abbrev pub told_heard : (start : Start) (s : Sender) (disk : DiskView) (events : List Event) (m : ServerMessage) → Told start s disk events → Told start (hears m s) disk (events ++ Heard m ∷ [])
 told_heard start s disk events m t = record {
-  hands = hands_heard start.source start.disk.reads (far_of s) events m s.sent t.hands t.sent;
+  hands = hands_heard start.source start.disk.reads (far_of s) events m t.hands;
   stands = t.stands;
   opening = t.opening;
-  sent = t.sent;
+  cuts = t.cuts;
   reads = t.reads;
 }
 
 -- ---- a message is heard late
 
-abbrev hands_late : (source : Source) (image : Image) (far : Far) (events : List Event) (m : ServerMessage) → HandsOut source image far events
-    → HandsOut source image (record { place = far.place; known = far.known || is_id m; rest = far.rest; reached = far.reached }) (events ++ as_late m)
+-- how far it is after it
+abbrev pub far_late : ServerMessage → Far → Far
+far_late m far = record { place = far.place; known = far.known || is_id m; sent = far.sent; rest = far.rest; exited = far.exited; reached = far.reached }
+
+abbrev pub hands_late : (source : Source) (image : Image) (far : Far) (events : List Event) (m : ServerMessage) → HandsOut source image far events → HandsOut source image (far_late m far) (events ++ as_late m)
 hands_late source image far events m h = record {
   more = h.more;
   exit = h.exit;
@@ -76,8 +83,10 @@ hands_late source image far events m h = record {
   said_is = said_late events m ∙ h.said_is;
   waited = subst (HasWaited far.place (begins_of source.what)) (sym (heard_late events m)) (waited_more far.place (begins_of source.what) (heard events) (m ∷ []) h.waited);
   known = ap (λ (b : Bool). b || is_id m) h.known ∙ sym (any_snoc is_id (heard events) m) ∙ ap (list_any is_id) (sym (heard_late events m));
+  sent = h.sent;
   rest = h.rest;
-  reached = h.reached ∙ sym (reached_late (elapsed (source.skipped ++ h.more)) events m);
+  exited = h.exited;
+  reached = h.reached ∙ sym (reached_late far.sent events m);
 }
 
 pub told_late : (start : Start) (s : Sender) (disk : DiskView) (events : List Event) (m : ServerMessage) → Told start s disk events → Told start (hears_late m s) disk (events ++ as_late m)
@@ -85,7 +94,7 @@ told_late start s disk events m t = record {
   hands = hands_late start.source start.disk.reads (far_of s) events m t.hands;
   stands = t.stands;
   opening = t.opening;
-  sent = t.sent;
+  cuts = t.cuts;
   reads = t.reads;
 }
 
@@ -123,7 +132,7 @@ over_waited Records begins messages done waited = absurd (let no : false ≡ tru
 over_waited Closing begins messages done waited = waited
 over_waited Over begins messages done waited = waited
 
-abbrev hands_over : (source : Source) (image : Image) (far : Far) (events : List Event) (h : HandsOut source image far events) → is_done_soon far.place ≡ true → HandsOut source image (record { place = Over; known = far.known; rest = far.rest; reached = far.reached }) events
+abbrev hands_over : (source : Source) (image : Image) (far : Far) (events : List Event) (h : HandsOut source image far events) → is_done_soon far.place ≡ true → HandsOut source image (record { place = Over; known = far.known; sent = far.sent; rest = far.rest; exited = far.exited; reached = far.reached }) events
 hands_over source image far events h done = record {
   more = h.more;
   exit = h.exit;
@@ -133,7 +142,9 @@ hands_over source image far events h done = record {
   said_is = h.said_is ∙ over_said far.place (opening_of source.what source.head) h.more h.exit done;
   waited = over_waited far.place (begins_of source.what) (heard events) done h.waited;
   known = h.known;
+  sent = h.sent;
   rest = h.rest;
+  exited = h.exited;
   reached = h.reached;
 }
 
@@ -190,7 +201,7 @@ begins_goes (Reject reason) = refl
 -- the opening is said, and a place follows it
 abbrev hands_first : (source : Source) (image : Image) (far : Far) (events : List Event) (h : HandsOut source image far events) → far.place ≡ Opening
     → (p : Place) → p ≡ begins_of source.what → (opening : List ClientMessage) → opening ≡ opening_of source.what source.head
-    → HandsOut source image (record { place = p; known = far.known; rest = far.rest; reached = false }) (events ++ all_said opening)
+    → HandsOut source image (record { place = p; known = far.known; sent = far.sent; rest = far.rest; exited = far.exited; reached = false }) (events ++ all_said opening)
 hands_first source image far events h at p begins opening op =
     let unsaid : IsUnsaid h.more h.exit = subst (λ (q : Place). SaysAt q source image h.more h.exit) at h.says in
     let said_none : said events ≡ [] = h.said_is ∙ ap (λ (q : Place). said_at q (opening_of source.what source.head) h.more h.exit) at in
@@ -204,8 +215,10 @@ hands_first source image far events h at p begins opening op =
           ∙ ap (λ (q : Place). said_at q (opening_of source.what source.head) [] None) (sym begins);
       waited = subst (λ (q : Place). HasWaited q (begins_of source.what) (heard (events ++ all_said opening))) (sym begins) (waited_first source.what (heard (events ++ all_said opening)));
       known = h.known ∙ ap (list_any is_id) (sym (heard_same events opening));
+      sent = h.sent ∙ ap (λ (rs : List Record). elapsed (source.skipped ++ rs)) unsaid.more_is;
       rest = h.rest ∙ ap (λ (rs : List Record). has_rest rs h.exit) unsaid.more_is ∙ ap (has_rest []) unsaid.exit_is;
-      reached = sym (ap (λ (ms : List ClientMessage). reached_by (elapsed (source.skipped ++ [])) false (events ++ all_said ms)) (op ∙ one.2) ∙ reached_said (elapsed (source.skipped ++ [])) events one.0 one.1);
+      exited = h.exited ∙ ap is_some unsaid.exit_is;
+      reached = sym (ap (λ (ms : List ClientMessage). reached_by far.sent false (events ++ all_said ms)) (op ∙ one.2) ∙ reached_said far.sent events one.0 one.1);
     }
 
 -- it stands after the records that are passed over
@@ -221,7 +234,7 @@ told_opening start s disk events is at t =
       hands = hands_first start.source start.disk.reads (far_of s) events t.hands at s.begins is.begins s.opening (t.opening at);
       stands = subst (λ (q : Place). StandsAt q s.log (start.source.skipped ++ []) disk) (sym is.begins) (stands_first start.source.what s.log (start.source.skipped ++ []) disk behind);
       opening = λ e. absurd (begins_not start.source.what (sym is.begins ∙ e));
-      sent = t.sent ∙ ap (λ (rs : List Record). elapsed (start.source.skipped ++ rs)) unsaid.more_is;
+      cuts = t.cuts;
       reads = t.reads;
     }
 
@@ -280,8 +293,9 @@ some_more (r ∷ ys) messages is some = (r, ys, refl)
 
 abbrev hands_records : (source : Source) (image : Image) (far : Far) (events : List Event) (h : HandsOut source image far events) → CanRecord far.place far.known
     → (ms : List ClientMessage) (r : Record) (ys more : List Record) → more ≡ r ∷ ys → ms ≡ map record_message more → Begins (laid_at source.number source.body image) (source.skipped ++ (h.more ++ more))
-    → IsWithin (stop_of source.what) source.skipped (h.more ++ more) → HandsOut source image (record { place = Records; known = far.known; rest = true; reached = false }) (events ++ all_said ms)
-hands_records source image far events h can ms r ys more are is begins within =
+    → IsWithin (stop_of source.what) source.skipped (h.more ++ more) → (through : ℕ) → through ≡ elapsed (source.skipped ++ (h.more ++ more))
+    → HandsOut source image (record { place = Records; known = far.known; sent = through; rest = true; exited = far.exited; reached = false }) (events ++ all_said ms)
+hands_records source image far events h can ms r ys more are is begins within through time =
     let opening = opening_of source.what source.head in
     let first : ms ≡ record_message r ∷ map record_message ys = is ∙ ap (map record_message) are in record {
       more = h.more ++ more;
@@ -293,9 +307,10 @@ hands_records source image far events h can ms r ys more are is begins within =
           ∙ ap (λ (xs : List ClientMessage). opening ++ (rest_of h.more None ++ xs)) is ∙ ap (λ (xs : List ClientMessage). opening ++ xs) (rest_join h.more more);
       waited = λ waits. ap (list_any is_id) (heard_same events ms) ∙ can_wait far.place far.known (begins_of source.what) (heard events) can h.known h.waited waits;
       known = h.known ∙ ap (list_any is_id) (sym (heard_same events ms));
+      sent = time;
       rest = rest_some h.more r ys None ∙ ap (λ (zs : List Record). has_rest (h.more ++ zs) None) (sym are);
-      reached = sym (ap (λ (xs : List ClientMessage). reached_by (elapsed (source.skipped ++ (h.more ++ more))) false (events ++ all_said xs)) first
-          ∙ reached_said (elapsed (source.skipped ++ (h.more ++ more))) events (record_message r) (map record_message ys));
+      exited = h.exited ∙ ap is_some (can_exit far.place far.known source image h.more h.exit can h.says);
+      reached = sym (ap (λ (xs : List ClientMessage). reached_by through false (events ++ all_said xs)) first ∙ reached_said through events (record_message r) (map record_message ys));
     }
 
 -- the committed bytes are those of the image at the beginning
@@ -329,13 +344,13 @@ told_records start s log disk later events batch most through is can number body
     let begins : Begins (laid_at start.source.number start.source.body start.disk.reads) (start.source.skipped ++ (t.hands.more ++ g.more)) =
     begins_here start.source.number start.source.body log start.disk later (start.source.skipped ++ (t.hands.more ++ g.more)) (number ∙ is.number) (body ∙ is.body) all stands in
     let time : elapsed (start.source.skipped ++ (t.hands.more ++ g.more)) ≡ s.sent + batch.elapsed =
-    ap elapsed (sym same) ∙ elapsed-append (start.source.skipped ++ t.hands.more) g.more ∙ ap (λ (n : ℕ). n + elapsed g.more) (sym t.sent) ∙ ap (λ (n : ℕ). s.sent + n) (sym g.elapsed_is) in
+    ap elapsed (sym same) ∙ elapsed-append (start.source.skipped ++ t.hands.more) g.more ∙ ap (λ (n : ℕ). n + elapsed g.more) (sym t.hands.sent) ∙ ap (λ (n : ℕ). s.sent + n) (sym g.elapsed_is) in
     let sent : through ≡ elapsed (start.source.skipped ++ (t.hands.more ++ g.more)) = small_sum s.sent batch.elapsed through (subst (λ (n : ℕ). n < 2 ^ 63) time begins.time) sum ∙ sym time in record {
       hands = hands_records start.source start.disk.reads (far_of s) events t.hands can batch.messages one.0 one.1 g.more one.2 g.messages_are begins
-          (subst (λ (o : Option ℕ). IsWithin o start.source.skipped (t.hands.more ++ g.more)) is.stop (within_more s.stop start.source.skipped (t.hands.more ++ g.more) through sent not));
+          (subst (λ (o : Option ℕ). IsWithin o start.source.skipped (t.hands.more ++ g.more)) is.stop (within_more s.stop start.source.skipped (t.hands.more ++ g.more) through sent not)) through sent;
       stands = stands;
       opening = λ e. absurd (let no : Records ≡ Opening = e in cc);
-      sent = sent;
+      cuts = t.cuts;
       reads = all;
     }
 
@@ -372,9 +387,9 @@ not_opening None is = cc
 not_opening (Some exit) is = cc
 
 abbrev hands_end : (source : Source) (image : Image) (far far' : Far) (events : List Event) (h : HandsOut source image far events) → CanRecord far.place far.known → (exit : Option Exit) (ms : List ClientMessage)
-    → ms ≡ ending exit → IsSaid source image h.more exit → far'.place ≡ place_after exit → far'.known ≡ far.known → far'.rest ≡ (far.rest || is_some exit) → far'.reached ≡ (if is_some exit then false else far.reached)
-    → HandsOut source image far' (events ++ all_said ms)
-hands_end source image far far' events h can exit ms is said_all place known rest reached =
+    → ms ≡ ending exit → IsSaid source image h.more exit → far'.place ≡ place_after exit → far'.known ≡ far.known → far'.sent ≡ far.sent → far'.rest ≡ (far.rest || is_some exit) → far'.exited ≡ (far.exited || is_some exit)
+    → far'.reached ≡ (if is_some exit then false else far.reached) → HandsOut source image far' (events ++ all_said ms)
+hands_end source image far far' events h can exit ms is said_all place known sent rest exited reached =
     let opening = opening_of source.what source.head in
     let none = can_exit far.place far.known source image h.more h.exit can h.says in record {
       more = h.more;
@@ -387,8 +402,11 @@ hands_end source image far far' events h can exit ms is said_all place known res
       waited = subst (λ (q : Place). HasWaited q (begins_of source.what) (heard (events ++ all_said ms))) (sym place)
           (waited_end exit (begins_of source.what) (heard (events ++ all_said ms)) (λ waits. ap (list_any is_id) (heard_same events ms) ∙ can_wait far.place far.known (begins_of source.what) (heard events) can h.known h.waited waits));
       known = known ∙ h.known ∙ ap (list_any is_id) (sym (heard_same events ms));
+      sent = sent ∙ h.sent;
       rest = rest ∙ ap (λ (b : Bool). b || is_some exit) (h.rest ∙ ap (has_rest h.more) none) ∙ rest_end exit h.more;
-      reached = reached_end exit (elapsed (source.skipped ++ h.more)) events far.reached far'.reached h.reached reached ∙ ap (λ (xs : List ClientMessage). reached_by (elapsed (source.skipped ++ h.more)) false (events ++ all_said xs)) (sym is);
+      exited = exited ∙ ap (λ (b : Bool). b || is_some exit) (h.exited ∙ ap is_some none);
+      reached = reached_end exit far.sent events far.reached far'.reached h.reached reached ∙ ap (λ (xs : List ClientMessage). reached_by far.sent false (events ++ all_said xs)) (sym is)
+          ∙ ap (λ (t : ℕ). reached_by t false (events ++ all_said ms)) (sym sent);
     }
 
 -- the log's end, and a record after the stop
@@ -406,14 +424,14 @@ one_more [] messages is few some = absurd (some is)
 one_more (r ∷ []) messages is few some = (r, refl)
 one_more (r ∷ q ∷ more) messages is few some = absurd (let same : length messages ≡ suc (suc (length (map record_message more))) = ap length is in omega (arith, same, few))
 
-one_with : (stop : Option ℕ) (time n : ℕ) → IsPast stop time → n ≤ most_of stop → n ≤ 1
-one_with None time n past few = absurd past
-one_with (Some stop) time n past few = few
+one_with : (stop : Option ℕ) (time n most : ℕ) → IsPast stop time → n ≤ most_of stop most → n ≤ 1
+one_with None time n most past few = absurd past
+one_with (Some stop) time n most past few = few
 
-pub taken_past : (source : Source) (stop : Option ℕ) (log : ViewState) (old now : DiskView) (records : List Record) (batch : Batch) (most through sent : ℕ) → log.number ≡ source.number → log.body ≡ source.body → OnlyReads old now → GivesNext log now records batch most
-    → length batch.messages ≤ most_of stop → (batch.messages ≡ [] → ⊥) → sent ≡ elapsed records → through ≡ min (sent + batch.elapsed) (2 ^ 64 - 1) → IsPast stop through → AreTaken (laid_at source.number source.body old.reads) source.body stop records
-taken_past source stop log old now records batch most through sent number body reads g few some time sum past =
-    let one = one_more g.more batch.messages g.messages_are (one_with stop through (length batch.messages) past few) some in
+pub taken_past : (source : Source) (stop : Option ℕ) (log : ViewState) (old now : DiskView) (records : List Record) (batch : Batch) (room most through sent : ℕ) → log.number ≡ source.number → log.body ≡ source.body → OnlyReads old now → GivesNext log now records batch most
+    → length batch.messages ≤ most_of stop room → (batch.messages ≡ [] → ⊥) → sent ≡ elapsed records → through ≡ min (sent + batch.elapsed) (2 ^ 64 - 1) → IsPast stop through → AreTaken (laid_at source.number source.body old.reads) source.body stop records
+taken_past source stop log old now records batch room most through sent number body reads g few some time sum past =
+    let one = one_more g.more batch.messages g.messages_are (one_with stop through (length batch.messages) room past few) some in
     let begins : Begins (laid_at source.number source.body old.reads) (records ++ one.0 ∷ []) =
     subst (λ (rs : List Record). Begins (laid_at source.number source.body old.reads) (records ++ rs)) one.1 (begins_here source.number source.body log old now (records ++ g.more) number body reads g.behind) in
     let all : elapsed (records ++ one.0 ∷ []) ≡ sent + batch.elapsed =
@@ -431,10 +449,10 @@ told_ending start s new log disk later image events ms is can number body same e
     (subst (λ (n : ℕ). IsExitBy s.stop n start.source.body start.disk.reads ends.exit) (number ∙ is.number)
     (subst (λ (b : Body). IsExitBy s.stop log.number b start.disk.reads ends.exit) (body ∙ is.body) (subst (λ (i : Image). IsExitBy s.stop log.number log.body i ends.exit) same ends.exit_is))) in record {
       hands = hands_end start.source start.disk.reads (far_of s) (far_of new) events t.hands can ends.exit ms ends.said_is
-          (record { begins = can_begin s.place s.known start.source start.disk.reads t.hands.more t.hands.exit (heard events) can t.hands.says t.hands.waited; taken = taken; exit_is = exit_is }) ends.place ends.known ends.more ends.reached;
+          (record { begins = can_begin s.place s.known start.source start.disk.reads t.hands.more t.hands.exit (heard events) can t.hands.says t.hands.waited; taken = taken; exit_is = exit_is }) ends.place ends.known ends.sent ends.more ends.exited ends.reached;
       stands = subst (λ (q : Place). StandsAt q new.log (start.source.skipped ++ t.hands.more) later) (sym ends.place) (stands_end ends.exit new.log (start.source.skipped ++ t.hands.more) later);
       opening = λ e. absurd (not_opening ends.exit (sym ends.place ∙ e));
-      sent = ends.sent ∙ t.sent;
+      cuts = t.cuts;
       reads = reads_trans start.disk disk later t.reads reads;
     }
 
@@ -444,6 +462,6 @@ told_over start s disk events done t = told_silent start (record s { place = Ove
   hands = hands_over start.source start.disk.reads (far_of s) events t.hands done;
   stands = tt;
   opening = λ e. absurd (let no : Over ≡ Opening = e in cc);
-  sent = t.sent;
+  cuts = t.cuts;
   reads = t.reads;
 })

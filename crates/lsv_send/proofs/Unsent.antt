@@ -1,20 +1,15 @@
--- A conversation that stopped: not all was written, or something that is waited for hadn't come.
-use Rattle.std.proofs.Common.{◌≡◌, ◌∙◌, ◌++◌, ◌∷◌, ◌≤◌, ◌⊎◌, inl, inr, ℕ, Bool, true, false, List, [], length, length-append, take, drop, map, refl, sym, ap, subst, append-nil, append_assoc, arith, Option, Some, None, IfSome, IsSome}
-use Rattle.std.specs.Prelude.{◌-◌, max, ◌&&◌, ◌||◌, not}
+-- A sender that wants to go on: something that is waited for hasn't come.
+use Rattle.std.proofs.Common.{◌≡◌, ◌∙◌, ◌++◌, ◌∷◌, ◌≤◌, ◌⊎◌, inl, inr, ℕ, Bool, true, false, List, [], length, length-append, take, drop, map, refl, sym, ap, subst, append-nil, append_assoc, arith, Option, Some, None}
+use Rattle.std.specs.Prelude.{◌-◌, max, ◌&&◌, ◌||◌, not, if◌then◌else◌}
 use Rattle.std.specs.List.{list_any}
 use Rattle.std.proofs.lemmas.List.{length-map}
-use Rattle.lsv_dialogue.specs.Ends.{IsUnfinished, IsUnput, WentOn}
-use Rattle.lsv_dialogue.specs.Events.{Event, frames_of, heard, late_of, said, text_of}
-use Rattle.lsv_dialogue.proofs.EventLemmas.{heard_late, paused_said, said_late}
-use Rattle.lsv_dialogue.specs.declared.ends.Cause.{Cause}
-use Rattle.lsv_dialogue.specs.declared.ends.End.TheVariants as ends
+use Rattle.lsv_dialogue.specs.Events.{Event, HasPaused, heard, said}
+use Rattle.lsv_dialogue.specs.declared.ends.Wants.TheVariants as wants
 use Rattle.lsv_disk.specs.View.{Image}
 use Rattle.lsv_info.specs.declared.times.Exit.{Exit}
 use Rattle.lsv_info.specs.declared.times.Head.{Head}
 use Rattle.lsv_iolog.specs.Recovered.{Replays}
 use Rattle.lsv_msg.specs.declared.messages.ClientMessage.{ClientMessage}
-use Rattle.lsv_msg.specs.declared.messages.ServerMessage.{ServerMessage}
-use Rattle.lsv_msg.specs.declared.messages.ServerMessage.TheVariants as server
 use Rattle.lsv_play.specs.Playing.{IsOpened, laid_at}
 use Rattle.lsv_play.proofs.Stored.{some_of_all}
 use Rattle.lsv_record.specs.Points.{Stored}
@@ -25,7 +20,7 @@ use Rattle.lsv_request.specs.Stored.{record_message}
 use Rattle.lsv_send_args.specs.Request.{Accept, Goes, Reject, Sending}
 use Rattle.lsv_send_args.specs.Request as asked
 use Rattle.lsv_transcript.specs.Transcript.{ending, is_id}
-use Rattle.lsv_send.specs.Handing.{Far, HandsOut, HasNoPoint, HasWaited, IsExitBy, IsLone, IsPartly, IsSaid, IsUnsaid, IsWithin, SaysAt, Source, Wanting, has_rest, is_there, rest_of, said_at}
+use Rattle.lsv_send.specs.Handing.{Far, HandsOut, HasWaited, IsExitBy, IsLone, IsPartly, IsQuiet, IsSaid, IsUnsaid, IsWithin, SaysAt, Source, has_rest, is_there, rest_of, said_at, wants_at}
 use Rattle.lsv_send.specs.Judging.{is_done, is_silent}
 use Rattle.lsv_send.specs.Opening.{Skips, begins_of, opening_of, stop_of}
 use Rattle.lsv_transcript.specs.Plan.{Plan, exit_by, reached, through}
@@ -33,39 +28,9 @@ use Rattle.lsv_send.specs.Plan.{IsCommitted, is_some_message, plan_of}
 use Rattle.lsv_send.specs.Reached.{reached_by}
 use Rattle.lsv_send.specs.declared.sender.Place.{Place}
 use Rattle.lsv_send.specs.declared.sender.Place.TheVariants.{Opening, Waiting, Records, Closing, Over}
-use Rattle.lsv_send.proofs.Events.{any_snoc, or_false, reached_late}
+use Rattle.lsv_send.proofs.Events.{paused_by}
 use Rattle.lsv_send.proofs.Stored.{Facts, aim_of, aim_there, drop_front, facts, follows, rest_is, take_past, through_least, waits_there}
 use Rattle.lsv_send.proofs.Telling.{first_of}
-
--- ---- before an error or an abort
-
-error_id : (m : ServerMessage) → IsSome (text_of m) → is_id m ≡ false
-error_id (server.Hello h) is = refl
-error_id (server.CommitPoint t) is = refl
-error_id (server.LogId id) is = absurd cc
-error_id (server.Error text) is = refl
-error_id (server.Abort text) is = refl
-
-said_front : (front : List Event) (last : Option ServerMessage) → said (front ++ late_of last) ≡ said front
-said_front front None = ap said (append-nil front)
-said_front front (Some m) = said_late front m
-
-reached_front : (time : ℕ) (front : List Event) (last : Option ServerMessage) → reached_by time false (front ++ late_of last) ≡ reached_by time false front
-reached_front time front None = ap (reached_by time false) (append-nil front)
-reached_front time front (Some m) = reached_late time front m
-
-known_front : (front : List Event) (last : Option ServerMessage) → IfSome last (λ m. IsSome (text_of m)) → list_any is_id (heard (front ++ late_of last)) ≡ list_any is_id (heard front)
-known_front front None error = ap (λ (events : List Event). list_any is_id (heard events)) (append-nil front)
-known_front front (Some m) error =
-    ap (list_any is_id) (heard_late front m) ∙ any_snoc is_id (heard front) m ∙ ap (λ (b : Bool). list_any is_id (heard front) || b) (error_id m error) ∙ or_false (list_any is_id (heard front))
-
--- what was waited for had come before it
-committed_front : (plan : Plan) (front events : List Event) (last : Option ServerMessage) → events ≡ front ++ late_of last → IfSome last (λ m. IsSome (text_of m)) → IsCommitted plan events → IsCommitted plan front
-committed_front plan front events last are error c = record {
-  said_is = sym (said_front front last) ∙ ap said (sym are) ∙ c.said_is;
-  aim = λ some. sym (reached_front plan.aim front last) ∙ ap (reached_by plan.aim false) (sym are) ∙ c.aim some;
-  id = λ none waits. sym (known_front front last error) ∙ ap (λ (es : List Event). list_any is_id (heard es)) (sym are) ∙ c.id none waits;
-}
 
 -- ---- the opening alone
 
@@ -128,6 +93,17 @@ aim_all (Reject reason) skipped more later exit lone within all = absurd (lone r
 
 -- ---- at each place
 
+not_there_by : (far : Far) → wants_at far ≡ wants.More → is_there far ≡ false
+not_there_by far more = go (is_there far) refl
+  where
+    ended : (b : Bool) → (if b then wants.End else wants.Nothing) ≡ wants.More → ⊥
+    ended true e = cc
+    ended false e = cc
+
+    go : (b : Bool) → is_there far ≡ b → b ≡ false
+    go false e = refl
+    go true e = absurd (ended far.exited (ap (λ (b : Bool). if b then (if far.exited then wants.End else wants.Nothing) else wants.More) (sym e) ∙ more))
+
 either : (b : Bool) → (b ≡ true) ⊎ (b ≡ false)
 either true = inl refl
 either false = inr refl
@@ -146,12 +122,17 @@ module _ (source : Source) (image : Image) (records : List Record) (exit : Optio
   -- a commit point came, if a record or an exit was said
   point_came : (rest : List ClientMessage) → said events ≡ opening_of source.what source.head ++ rest → is_some_message rest ≡ true → aim_of source.what source.skipped records ≡ elapsed (source.skipped ++ h.more) → far.reached ≡ true
   point_came rest is some aim =
-      h.reached ∙ ap (λ (time : ℕ). reached_by time false events) (sym (f.p.aim ∙ aim)) ∙ c.aim (ap is_some_message (same_rest rest is) ∙ some)
+      h.reached ∙ ap (λ (time : ℕ). reached_by time false events) (h.sent ∙ sym (f.p.aim ∙ aim)) ∙ c.aim (ap is_some_message (same_rest rest is) ∙ some)
 
   -- more may be said there
-  still_speaks : {rest : List ClientMessage} → said events ≡ opening_of source.what source.head ++ rest → rest ≡ [] → is_silent far.place far.known ≡ false → (is_silent far.place far.known ≡ true) ⊎ (16 ≤ length (said events)) → ⊥
+  still_speaks : {rest : List ClientMessage} → said events ≡ opening_of source.what source.head ++ rest → rest ≡ [] → is_silent far.place far.known ≡ false → IsQuiet far ⊎ ((16 ≤ length (said events)) × (reached_by far.sent false events ≡ false)) → ⊥
   still_speaks {rest} is none speaks (inl silent) = let no_ : true ≡ false = sym silent ∙ speaks in cc
-  still_speaks {rest} is none speaks (inr many) = few_said source.what source.head (said events) rest is none many
+  still_speaks {rest} is none speaks (inr many) = few_said source.what source.head (said events) rest is none many.0
+
+  -- and no commit point came after what was said last
+  no_point : is_silent far.place far.known ≡ false → IsQuiet far ⊎ ((16 ≤ length (said events)) × (reached_by far.sent false events ≡ false)) → far.reached ≡ false
+  no_point speaks (inl silent) = absurd (let no_ : true ≡ false = sym silent ∙ speaks in cc)
+  no_point speaks (inr many) = h.reached ∙ many.1
 
   not_opening : far.place ≡ Opening → ⊥
   not_opening e =
@@ -160,40 +141,41 @@ module _ (source : Source) (image : Image) (records : List Record) (exit : Optio
       let all : [] ≡ (first.0 ∷ first.1) ++ f.p.plan.transcript.rest = sym none ∙ c.said_is ∙ ap (λ (o : List ClientMessage). o ++ f.p.plan.transcript.rest) (f.p.opening ∙ first.2) in
       cc
 
-  not_waiting : far.place ≡ Waiting → (is_silent far.place far.known ≡ true) ⊎ (16 ≤ length (said events)) → ⊥
+  not_waiting : far.place ≡ Waiting → IsQuiet far ⊎ ((16 ≤ length (said events)) × (reached_by far.sent false events ≡ false)) → ⊥
   not_waiting e spoke =
       let says : IsUnsaid h.more h.exit = subst (λ (q : Place). SaysAt q source image h.more h.exit) e h.says in
       let begins : begins_of source.what ≡ Waiting = subst (λ (q : Place). HasWaited q (begins_of source.what) (heard events)) e h.waited in
       let is : said events ≡ opening_of source.what source.head ++ rest_of h.more h.exit = h.said_is ∙ ap (λ (q : Place). said_at q (opening_of source.what source.head) h.more h.exit) e in
       let none : rest_of h.more h.exit ≡ [] = ap (λ (xs : List Record). rest_of xs h.exit) says.more_is ∙ ap (rest_of []) says.exit_is in
       let known : far.known ≡ true = h.known ∙ c.id (ap is_some_message (same_rest (rest_of h.more h.exit) is ∙ none)) (f.p.waits ∙ waits_there source.what begins) in
-      elim spoke [ inl silent ↦ (let no_ : false ≡ true = ap not (sym known) ∙ ap (λ (q : Place). is_silent q far.known) (sym e) ∙ silent in cc) | inr many ↦ few_said source.what source.head (said events) (rest_of h.more h.exit) is none many ]
+      elim spoke [ inl silent ↦ (let no_ : false ≡ true = ap not (sym known) ∙ ap (λ (q : Place). is_silent q far.known) (sym e) ∙ silent in cc) | inr many ↦ few_said source.what source.head (said events) (rest_of h.more h.exit) is none many.0 ]
 
-  not_records : (later : List Record) → records ≡ (source.skipped ++ h.more) ++ later → far.place ≡ Records → HasNoPoint far.place far.reached → (is_silent far.place far.known ≡ true) ⊎ (16 ≤ length (said events)) → ⊥
-  not_records later split e point spoke =
+  not_records : (later : List Record) → records ≡ (source.skipped ++ h.more) ++ later → far.place ≡ Records → IsQuiet far ⊎ ((16 ≤ length (said events)) × (reached_by far.sent false events ≡ false)) → ⊥
+  not_records later split e spoke =
       let says : IsPartly source h.exit = subst (λ (q : Place). SaysAt q source image h.more h.exit) e h.says in
       let is : said events ≡ opening_of source.what source.head ++ rest_of h.more None =
       h.said_is ∙ ap (λ (q : Place). said_at q (opening_of source.what source.head) h.more h.exit) e ∙ ap (λ (x : Option Exit). opening_of source.what source.head ++ rest_of h.more x) says.exit_is in
-      let no_point : far.reached ≡ false = subst (λ (q : Place). HasNoPoint q far.reached) e point in
+      let not_reached : far.reached ≡ false = no_point (ap (λ (q : Place). is_silent q far.known) e) spoke in
       let all : follows source.what source.skipped ((source.skipped ++ h.more) ++ later) exit ≡ rest_of h.more None = ap (λ (rs : List Record). follows source.what source.skipped rs exit) (sym split) ∙ sym f.p.rest ∙ same_rest (rest_of h.more None) is in
       let aim : aim_of source.what source.skipped records ≡ elapsed (source.skipped ++ h.more) = ap (aim_of source.what source.skipped) split ∙ aim_all source.what source.skipped h.more later exit says.begins h.within all in
       elim (either (has_rest h.more None)) [
-        | inl some ↦ (let came = point_came (rest_of h.more None) is (rest_is h.more None ∙ some) aim in let no_ : true ≡ false = sym came ∙ no_point in cc)
+        | inl some ↦ (let came = point_came (rest_of h.more None) is (rest_is h.more None ∙ some) aim in let no_ : true ≡ false = sym came ∙ not_reached in cc)
         | inr none ↦ still_speaks is (rest_none h.more None none) (ap (λ (q : Place). is_silent q far.known) e) spoke
       ]
 
-  not_closing : far.place ≡ Closing → HasNoPoint far.place far.reached → (is_silent far.place far.known ≡ true) ⊎ (16 ≤ length (said events)) → ⊥
-  not_closing e point spoke =
+  not_closing : far.place ≡ Closing → IsQuiet far ⊎ ((16 ≤ length (said events)) × (reached_by far.sent false events ≡ false)) → ⊥
+  not_closing e spoke =
       let says : IsLone source h.more h.exit ⊎ IsSaid source image h.more h.exit = subst (λ (q : Place). SaysAt q source image h.more h.exit) e h.says in
       let is : said events ≡ opening_of source.what source.head ++ rest_of h.more h.exit = h.said_is ∙ ap (λ (q : Place). said_at q (opening_of source.what source.head) h.more h.exit) e in
-      let no_point : far.reached ≡ false = subst (λ (q : Place). HasNoPoint q far.reached) e point in
+      let not_reached : far.reached ≡ false = no_point (ap (λ (q : Place). is_silent q far.known) e) spoke in
       elim (either (has_rest h.more h.exit)) [
-        | inl some ↦ (let came = point_came (rest_of h.more h.exit) is (rest_is h.more h.exit ∙ some) (aim_there source image records h.more h.exit exit f h.within says some) in let no_ : true ≡ false = sym came ∙ no_point in cc)
+        | inl some ↦ (let came = point_came (rest_of h.more h.exit) is (rest_is h.more h.exit ∙ some) (aim_there source image records h.more h.exit exit f h.within says some) in let no_ : true ≡ false = sym came ∙ not_reached in cc)
         | inr none ↦ still_speaks is (rest_none h.more h.exit none) (ap (λ (q : Place). is_silent q far.known) e) spoke
       ]
 
-  not_over : far.place ≡ Over → is_there far ≡ false → ⊥
-  not_over e not_there =
+  not_over : far.place ≡ Over → wants_at far ≡ wants.More → ⊥
+  not_over e more =
+      let not_there : is_there far ≡ false = not_there_by far more in
       let says : IsLone source h.more h.exit ⊎ IsSaid source image h.more h.exit = subst (λ (q : Place). SaysAt q source image h.more h.exit) e h.says in
       let is : said events ≡ opening_of source.what source.head ++ rest_of h.more h.exit = h.said_is ∙ ap (λ (q : Place). said_at q (opening_of source.what source.head) h.more h.exit) e in
       let waits : (not far.rest || far.reached) ≡ false = ap (λ (q : Place). is_done q && (not far.rest || far.reached)) (sym e) ∙ not_there in
@@ -203,36 +185,21 @@ module _ (source : Source) (image : Image) (records : List Record) (exit : Optio
       let no_ : true ≡ false = sym came ∙ parts.1 in
       cc
 
--- then not all that was waited for had come
-wanting_not : (source : Source) (image : Image) (records later : List Record) (exit : Option Exit) (f : Facts source image records exit) (events : List Event) (w : Wanting source image events) → records ≡ (source.skipped ++ w.hands.more) ++ later → IsCommitted f.p.plan events → ⊥
-wanting_not source image records later exit f events w split c = go w.far.place refl
+-- then not all that is waited for had come
+wanting_not : (source : Source) (image : Image) (records later : List Record) (exit : Option Exit) (f : Facts source image records exit) (events : List Event) (far : Far) (h : HandsOut source image far events) → records ≡ (source.skipped ++ h.more) ++ later
+    → IsQuiet far ⊎ ((16 ≤ length (said events)) × (reached_by far.sent false events ≡ false)) → wants_at far ≡ wants.More → IsCommitted f.p.plan events → ⊥
+wanting_not source image records later exit f events far h split spoke more c = go far.place refl
   where
-    spoke : (is_silent w.far.place w.far.known ≡ true) ⊎ (16 ≤ length (said events))
-    spoke = paused_said (is_silent w.far.place w.far.known ≡ true) events w.spoke
+    go : (p : Place) → far.place ≡ p → ⊥
+    go Opening e = not_opening source image records exit f events far h c e
+    go Waiting e = not_waiting source image records exit f events far h c e spoke
+    go Records e = not_records source image records exit f events far h c later split e spoke
+    go Closing e = not_closing source image records exit f events far h c e spoke
+    go Over e = not_over source image records exit f events far h c e more
 
-    go : (p : Place) → w.far.place ≡ p → ⊥
-    go Opening e = not_opening source image records exit f events w.far w.hands c e
-    go Waiting e = not_waiting source image records exit f events w.far w.hands c e spoke
-    go Records e = not_records source image records exit f events w.far w.hands c later split e w.point spoke
-    go Closing e = not_closing source image records exit f events w.far w.hands c e w.point spoke
-    go Over e = not_over source image records exit f events w.far w.hands c e w.not_there
-
-left_not : (source : Source) (image : Image) (head_log : List Record) (exit : Option Exit) (f : Facts source image head_log exit) (output : List ℕ) (events : List Event) → (events ≡ []) ⊎ IsUnput (Unit {0}) output (said events) ⊎ WentOn (Wanting source image) events → output ≡ frames_of (said events)
-    → IsCommitted f.p.plan events → ⊥
-left_not source image records exit f output events (inl none) all c =
-    let first = first_of source.what source.head in
-    let no_ : [] ≡ (first.0 ∷ first.1) ++ f.p.plan.transcript.rest = ap said (sym none) ∙ c.said_is ∙ ap (λ (o : List ClientMessage). o ++ f.p.plan.transcript.rest) (f.p.opening ∙ first.2) in
-    cc
-left_not source image records exit f output events (inr (inl less)) all c = let few = less tt in let same = ap length all in omega (arith, few, same)
-left_not source image records exit f output events (inr (inr went)) all c =
-    let w = went.wanted in
-    let l = laid_at source.number source.body image in
-    let split = some_of_all l records (source.skipped ++ w.hands.more) f.laid f.begins w.hands.begins (one_begins l (source.skipped ++ w.hands.more) records w.hands.begins f.begins) in
-    wanting_not source image records split.0 exit f went.front w split.1 (committed_front f.p.plan went.front events went.last went.are went.error c)
-
-pub stored_unsent : (source : Source) (image : Image) (far : Far) (events : List Event) (log : Stored) (exit : Option Exit) (output : List ℕ) (cause : Cause) → IsOpened source.number source.body source.head image → Skips source.what source.skipped → Replays image source.number (Some log)
-    → IsExitBy None source.number source.body image exit → HandsOut source image far events → IsUnfinished (Wanting source image) (Unit {0}) (ends.Stopped cause) output events → output ≡ frames_of (said events)
+pub stored_unsent : (source : Source) (image : Image) (far : Far) (events : List Event) (log : Stored) (exit : Option Exit) → IsOpened source.number source.body source.head image → Skips source.what source.skipped → Replays image source.number (Some log)
+    → IsExitBy None source.number source.body image exit → HandsOut source image far events → HasPaused (IsQuiet far) events → wants_at far ≡ wants.More
     → (plan : Plan) × (plan_of source.what log.records source.head exit ≡ Some plan) × (IsCommitted plan events → ⊥)
-stored_unsent source image far events log exit output cause opened skips holds exit_is h left all =
+stored_unsent source image far events log exit opened skips holds exit_is h paused more =
     let f = facts source image far events log exit opened skips holds exit_is h in
-    (f.2.p.plan, f.2.p.is, left_not source image log.records exit f.2 output events left all)
+    (f.2.p.plan, f.2.p.is, wanting_not source image log.records f.0 exit f.2 events far h f.1 (paused_by (IsQuiet far) far.sent events paused) more)

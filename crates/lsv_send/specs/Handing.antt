@@ -1,8 +1,10 @@
 -- How far a log is handed out on a connection, by what was heard and said.
-use Rattle.std.specs.Prelude.{◌≡◌, ◌≢◌, ◌⊎◌, ℕ, ◌≤◌, ◌<◌, ◌||◌, ◌&&◌, not, Bool, true, false, List, [], ◌∷◌, ◌++◌, map, Option, Some, None, Ok}
+use Rattle.std.specs.Prelude.{◌≡◌, ◌≢◌, ◌⊎◌, ℕ, ◌≤◌, ◌<◌, ◌||◌, ◌&&◌, not, if◌then◌else◌, is_some, Bool, true, false, List, [], ◌∷◌, ◌++◌, map, Option, Some, None, Ok}
 use Rattle.std.specs.List.{list_any}
 use Rattle.lsv_bundle.specs.declared.body.Body.{Body}
-use Rattle.lsv_dialogue.specs.Events.{AtEach, Event, HasPaused, heard, said}
+use Rattle.lsv_dialogue.specs.Events.{Event, heard, said}
+use Rattle.lsv_dialogue.specs.declared.ends.Wants.{Wants}
+use Rattle.lsv_dialogue.specs.declared.ends.Wants.TheVariants as wants
 use Rattle.lsv_disk.specs.View.{Image}
 use Rattle.lsv_disk.specs.declared.file.Part.TheVariants as parts
 use Rattle.lsv_info.specs.Reading.{exit_of}
@@ -18,7 +20,7 @@ use Rattle.lsv_record.specs.declared.records.Record.{Record}
 use Rattle.lsv_request.specs.Stored.{record_message}
 use Rattle.lsv_send_args.specs.Request.{Sending}
 use Rattle.lsv_transcript.specs.Transcript.{ending, is_id}
-use Rattle.lsv_send.specs.Judging.{is_done, is_silent, judged_at}
+use Rattle.lsv_send.specs.Judging.{is_done, is_silent}
 use Rattle.lsv_send.specs.Reached.{reached_by}
 use Rattle.lsv_send.specs.Opening.{begins_of, opening_of, stop_of}
 use Rattle.lsv_send.specs.declared.sender.Place.{Place}
@@ -112,16 +114,26 @@ HasWaited Records begins messages = begins ≡ Waiting → list_any is_id messag
 HasWaited Closing begins messages = begins ≡ Waiting → list_any is_id messages ≡ true
 HasWaited Over begins messages = begins ≡ Waiting → list_any is_id messages ≡ true
 
--- how far it is: the place, whether an identifier came, whether a record or an exit was said, and whether the last commit point came after it
+-- how far it is
 pub record Far : Type 0 where
   pub place : Place
+  -- whether an identifier came
   pub known : Bool
+  -- the elapsed time of the records that were said or passed over
+  pub sent : ℕ
+  -- whether a record or an exit was said, and whether an exit was
   pub rest : Bool
+  pub exited : Bool
+  -- whether a commit point at that time came after the last message that was said
   pub reached : Bool
 
 -- all that is waited for came: all was said, and the last commit point came, if a record or an exit was said
 abbrev pub is_there : Far → Bool
 is_there far = is_done far.place && (not far.rest || far.reached)
+
+-- what is wanted: to go on; and, when all that is waited for came, the connection's end, if an exit was said, since a server ends the connection once it took that; else nothing
+abbrev pub wants_at : Far → Wants
+wants_at far = if is_there far then (if far.exited then wants.End else wants.Nothing) else wants.More
 
 -- a log is handed out so far by these events
 pub record HandsOut (source : Source) (image : Image) (far : Far) (events : List Event) : Type 0 where
@@ -134,26 +146,12 @@ pub record HandsOut (source : Source) (image : Image) (far : Far) (events : List
   pub said_is : said events ≡ said_at far.place (opening_of source.what source.head) more exit
   pub waited : HasWaited far.place (begins_of source.what) (heard events)
   pub known : far.known ≡ list_any is_id (heard events)
+  pub sent : far.sent ≡ elapsed (source.skipped ++ more)
   pub rest : far.rest ≡ has_rest more exit
-  pub reached : far.reached ≡ reached_by (elapsed (source.skipped ++ more)) false events
+  pub exited : far.exited ≡ is_some exit
+  pub reached : far.reached ≡ reached_by far.sent false events
 
--- ---- What is taken
-
--- a message is taken: a server can send it that has what was sent, or all that is waited for came
-abbrev pub IsTaken : Far → (sent : ℕ) → ServerMessage → Type 0
-IsTaken far sent m = is_there far ≡ false → judged_at sent m ≡ None
-
--- after these events a message is taken
-pub record TakesAfter (source : Source) (image : Image) (before : List Event) (m : ServerMessage) : Type 0 where
-  pub far : Far
-  pub hands : HandsOut source image far before
-  pub taken : IsTaken far (elapsed (source.skipped ++ hands.more)) m
-
--- each message was taken when it was heard
-abbrev pub TakesEach : Source → Image → List Event → Type 0
-TakesEach source image events = AtEach (TakesAfter source image) (TakesAfter source image) [] events
-
--- ---- What is wanted
+-- ---- As a speaker
 
 -- records may be said
 abbrev pub CanRecord : Place → (known : Bool) → Type 0
@@ -163,22 +161,6 @@ CanRecord Records known = Unit {0}
 CanRecord Closing known = ⊥
 CanRecord Over known = ⊥
 
--- no commit point came after the records or the exit that were said last
-abbrev pub HasNoPoint : Place → (reached : Bool) → Type 0
-HasNoPoint Opening reached = Unit {0}
-HasNoPoint Waiting reached = Unit {0}
-HasNoPoint Records reached = reached ≡ false
-HasNoPoint Closing reached = reached ≡ false
-HasNoPoint Over reached = Unit {0}
-
--- these events handed out the log so far, and not all that is waited for came; and nothing more could be said, or 16 messages were said since the last one was heard
-pub record Wanting (source : Source) (image : Image) (events : List Event) : Type 0 where
-  pub far : Far
-  pub hands : HandsOut source image far events
-  pub not_there : is_there far ≡ false
-  pub point : HasNoPoint far.place far.reached
-  pub spoke : HasPaused (is_silent far.place far.known ≡ true) events
-
--- each message that was heard in time came when more was wanted
-abbrev pub WantsEach : Source → Image → List Event → Type 0
-WantsEach source image events = AtEach (λ before m. Wanting source image before) (λ before m. Unit {0}) [] events
+-- nothing more may be said before a further message
+abbrev pub IsQuiet : Far → Type 0
+IsQuiet far = is_silent far.place far.known ≡ true

@@ -2,6 +2,7 @@ pub mod Begun
 pub mod Disk
 pub mod Faults
 pub mod Handing
+pub mod Held
 pub mod Judging
 pub mod Lines
 pub mod Opening
@@ -12,4 +13,5 @@ pub mod Ready
 pub mod Sending
 pub mod Status
 pub mod Talks
+pub mod Visible
 pub mod Words

@@ -6,10 +6,11 @@ use Rattle.lsv_base.specs.Time.{nanos_of}
 use Rattle.lsv_msg.specs.declared.messages.ServerMessage.{ServerMessage}
 use Rattle.lsv_msg.specs.declared.messages.ServerMessage.TheVariants as server
 use Rattle.lsv_record.specs.Records.{seconds}
+use Rattle.lsv_send.specs.Visible.{visible}
 
--- the line of an identifier: bytes that are no UTF-8 are shown as `String::from_utf8_lossy` shows them
+-- the line of an identifier: bytes that are no UTF-8 are shown as `String::from_utf8_lossy` shows them, and control characters by their numbers
 abbrev pub id_line : List ℕ → List ℕ
-id_line id = codes "id " ++ utf8_lossy id ++ 10 ∷ []
+id_line id = codes "id " ++ visible 0 (utf8_lossy id) ++ 10 ∷ []
 
 -- the line of a commit point: its seconds, with nine digits after the point; none if it is no time
 abbrev pub commit_line : Option ℕ → List ℕ

@@ -1,5 +1,5 @@
 -- A log that is opened to be sent: what is handed out first, and which records are passed over.
-use Rattle.std.specs.Prelude.{◌≡◌, ◌≢◌, ◌⊎◌, ℕ, false, List, [], ◌∷◌, ◌++◌, length, Option, Some, None}
+use Rattle.std.specs.Prelude.{◌≡◌, ◌⊎◌, ℕ, false, List, [], ◌∷◌, ◌++◌, length, Option, Some, None}
 use Rattle.lsv_bundle.specs.declared.body.Body.{Body}
 use Rattle.lsv_disk.specs.View.{DiskView, Image}
 use Rattle.lsv_disk.specs.declared.file.Part.{Part}
@@ -64,6 +64,7 @@ pub record Opens (what : Sending) (n : ℕ) (before after : DiskView) (s : Sende
   pub sent : s.sent ≡ elapsed skipped
   pub known : s.known ≡ false
   pub more : s.more ≡ false
+  pub exited : s.exited ≡ false
   pub reached : s.reached ≡ false
 
 -- no record ends at a point: not among these, which the log begins with, whatever follows; or these are all
@@ -111,10 +112,11 @@ pub record IsNew (what : Sending) (n : ℕ) (s : Sender) : Type 0 where
   pub number : s.log.number ≡ n
   pub begins : s.begins ≡ begins_of what
   pub stop : s.stop ≡ stop_of what
-  pub opening : s.opening ≢ []
+  pub opening : length s.opening ≡ 2
   pub place : s.place ≡ places.Opening
   pub known : s.known ≡ false
   pub more : s.more ≡ false
+  pub exited : s.exited ≡ false
   pub reached : s.reached ≡ false
 
 -- the sender stands after the records through a resume point
@@ -132,6 +134,7 @@ pub record Resumes (log : ViewState) (id : List ℕ) (point : ℕ) (stop : Optio
   pub sent : s.sent ≡ point
   pub known : s.known ≡ false
   pub more : s.more ≡ false
+  pub exited : s.exited ≡ false
   pub reached : s.reached ≡ false
 
 -- why no record ends at a resume point

@@ -1,32 +1,33 @@
 -- What a run does, by its words and the store: which connection it makes, what is said on it, what it prints, and how it ends.
-use Rattle.std.specs.Prelude.{◌≡◌, ◌⊎◌, ℕ, true, List, [], Option, Some, None, Result, Ok, Err}
+use Rattle.std.specs.Prelude.{◌≡◌, ◌≢◌, ◌⊎◌, ℕ, List, [], Option, Some, None, Result, Ok, Err}
 use Rattle.lsv_base.specs.LogNo.{log_no_in}
 use Rattle.lsv_bundle.specs.declared.body.Body.{Body}
-use Rattle.lsv_dialogue.specs.Ends.{Broke, Finished, Ran}
-use Rattle.lsv_dialogue.specs.Events.{Event, heard}
+use Rattle.lsv_dialogue.specs.Ends.{Broke, Ended, Ran}
+use Rattle.lsv_dialogue.specs.Events.{heard}
+use Rattle.lsv_dialogue.specs.Judging.{judged_at}
+use Rattle.lsv_dialogue.specs.Manner.{Manner}
 use Rattle.lsv_dialogue.specs.declared.ends.End.{End}
-use Rattle.lsv_dialogue.specs.declared.ends.Judged.{Judged}
-use Rattle.lsv_dialogue.specs.declared.ends.Judged.TheVariants as verdicts
 use Rattle.lsv_dialogue.specs.declared.ends.TalkFault.{TalkFault}
+use Rattle.lsv_dialogue.specs.declared.ends.TalkFault.TheVariants as talks
 use Rattle.lsv_disk.specs.View.{Image}
 use Rattle.lsv_info.specs.declared.times.Head.{Head}
 use Rattle.lsv_iolog.specs.declared.fault.LogFault.{LogFault}
 use Rattle.lsv_iolog.specs.declared.fault.LogFault.TheVariants as logs
 use Rattle.lsv_link.specs.Link.{LinkCounts, LinkState}
-use Rattle.lsv_msg.specs.declared.messages.ServerMessage.{ServerMessage}
+use Rattle.lsv_link.specs.declared.connection.Connection.{Connection}
 use Rattle.lsv_play.specs.Playing.{IsOpened}
 use Rattle.lsv_record.specs.declared.records.Record.{Record}
 use Rattle.lsv_send_args.specs.Request.{Asked, Sending}
 use Rattle.lsv_defs.specs.Pieces.{IsPrefix}
 use Rattle.lsv_send.specs.Faults.{HandsUntil}
-use Rattle.lsv_send.specs.Handing.{Far, HandsOut, Source, TakesEach, Wanting, WantsEach, is_there}
-use Rattle.lsv_send.specs.Judging.{is_silent}
+use Rattle.lsv_send.specs.Handing.{Far, HandsOut, IsQuiet, Source, wants_at}
 use Rattle.lsv_send.specs.Lines.{lines_of}
 use Rattle.lsv_send.specs.Opening.{IsNotOpened, Skips}
 use Rattle.lsv_send.specs.Status.{of_log, of_talk}
 use Rattle.lsv_send.specs.Words.{Asks, IsUsage}
 use Rattle.lsv_send.specs.declared.fault.SendFault.{SendFault}
 use Rattle.lsv_send.specs.declared.fault.SendFault.TheVariants as faults
+use Rattle.lsv_send.specs.declared.sender.Place.TheVariants.{Opening}
 use Rattle.lsv_send.specs.declared.status.SendStatus.{SendStatus}
 use Rattle.lsv_send.specs.declared.status.SendStatus.TheVariants.{Log, NoMem, Usage}
 
@@ -43,37 +44,44 @@ pub record IsIdle (out : Outcome) : Type 0 where
   pub link : out.new ≡ out.old
   pub printed : out.printed ≡ []
 
--- what was printed when a step failed: the lines of all that was heard, or by the sink or out of memory a first part of them
+-- what was printed when a call failed: the lines of all that was heard, or by the sink or out of memory a first part of them
 abbrev pub PrintsBy : SendFault → (lines printed : List ℕ) → Type 0
 PrintsBy faults.Sink lines printed = IsPrefix printed lines
 PrintsBy faults.NoMem lines printed = IsPrefix printed lines
 PrintsBy (faults.Log fault) lines printed = printed ≡ lines
-PrintsBy (faults.Strange point) lines printed = printed ≡ lines
-PrintsBy (faults.LongId n) lines printed = printed ≡ lines
 
--- these events handed out the log so far, each message that was heard was taken, and its line was printed
-pub record Says (source : Source) (image : Image) (far : Far) (printed : List ℕ) (events : List Event) : Type 0 where
-  pub hands : HandsOut source image far events
-  pub takes : TakesEach source image events
-  pub wanted : WantsEach source image events
-  pub prints : printed ≡ lines_of (heard events)
+-- and when a conversation broke off
+abbrev pub PrintsUntil : TalkFault SendFault → (lines printed : List ℕ) → Type 0
+PrintsUntil talks.NoMem lines printed = printed ≡ lines
+PrintsUntil (talks.Speaker fault) lines printed = PrintsBy fault lines printed
 
--- the same up to a step that failed
-pub record SaysUntil (source : Source) (image : Image) (printed : List ℕ) (events : List Event) (fault : SendFault) : Type 0 where
-  pub until : HandsUntil source image events fault
-  pub wanted : WantsEach source image events
-  pub prints : PrintsBy fault (lines_of (heard events)) printed
+-- how a log is sent: what was heard and said handed it out so far; a commit point above what was sent, and an identifier that is too long, aren't taken
+abbrev pub sending : Source → Image → Manner Far (Unit {0}) SendFault
+sending source image = record {
+  talks = λ far _ events. HandsOut source image far events;
+  fails = λ far _ events fault. HandsUntil source image events fault;
+  judges = λ far m. judged_at far.sent m;
+  opened = λ far. far.place ≢ Opening;
+  quiet = IsQuiet;
+  wants = wants_at;
+}
 
--- each message is taken, or a fault of the step
-abbrev pub takes_all : ServerMessage → Judged
-takes_all m = verdicts.Takes
+-- a connection on which a log was handed out, and which ended so: each message that was heard has its line
+pub record Went (source : Source) (image : Image) (tells : Type 0) (out : Outcome) (end : End) (conn : Connection) : Type 0 where
+  pub far : Far
+  pub ended : Ended (sending source image) tells far tt out.before out.after conn end
+  pub prints : out.printed ≡ lines_of (heard ended.events)
+
+-- the same up to a call that failed
+pub record WentUntil (source : Source) (image : Image) (tells : Type 0) (out : Outcome) (fault : TalkFault SendFault) (conn : Connection) : Type 0 where
+  pub far : Far
+  pub broke : Broke (sending source image) tells far tt out.before out.after conn fault
+  pub prints : PrintsUntil fault (lines_of (heard broke.events)) out.printed
 
 -- a connection to the server, and the log handed out on it, over a link that tells its content
 abbrev pub Talked : (tells : Type 0) → Source → Image → (server : List ℕ) → Result End (TalkFault SendFault) → Outcome → Type 0
-Talked tells source image server (Ok end) out =
-    (far : Far) × Ran tells server out.old out.new (λ conn. Finished (Wanting source image) (Says source image far out.printed) takes_all (is_there far) (is_silent far.place far.known ≡ true) tells out.before out.after conn end)
-Talked tells source image server (Err fault) out =
-    (far : Far) × Ran tells server out.old out.new (λ conn. Broke (Says source image far out.printed) (SaysUntil source image out.printed) tells out.before out.after conn fault)
+Talked tells source image server (Ok end) out = Ran tells server out.old out.new (Went source image tells out end)
+Talked tells source image server (Err fault) out = Ran tells server out.old out.new (WentUntil source image tells out fault)
 
 -- the log wasn't opened, and the run ended by that
 pub record IsUnsent (what : Sending) (n : ℕ) (image : Image) (status : SendStatus) (out : Outcome) : Type 0 where

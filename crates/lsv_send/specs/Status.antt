@@ -40,8 +40,6 @@ of_log (logs.TooLong point) = Log (logs.TooLong point)
 abbrev pub of_fault : SendFault → SendStatus
 of_fault (faults.Log fault) = of_log (of_view fault)
 of_fault faults.Sink = WriteFault
-of_fault (faults.Strange point) = Refused (causes.Strange point)
-of_fault (faults.LongId n) = Refused (causes.LongId n)
 of_fault faults.NoMem = NoMem
 
 -- how a run ends whose conversation ended so
@@ -55,7 +53,8 @@ of_talk (Err (talks.Speaker fault)) = of_fault fault
 pub record HasLinkCause (status : SendStatus) (before after : LinkCounts) : Type 0 where
   -- none fell
   pub continues : Continues before after
-  -- that of the faults rose, if the run ended as Failed
+  -- that of the faults rose, if the run ended as Unreached or Failed
+  pub unreached : status ≡ Refused causes.Unreached → HasRisen before.faults after.faults
   pub failed : status ≡ Refused causes.Failed → HasRisen before.faults after.faults
   -- one of those of waiting in vain rose, if it ended as NotYet
   pub waited : status ≡ Refused causes.NotYet → HasRisen before.full after.full ⊎ HasRisen before.waits after.waits

@@ -1,21 +1,20 @@
 -- How a conversation stands in which a log is handed out: what only the proofs need.
-use Rattle.std.specs.Prelude.{◌≡◌, ◌≢◌, ℕ, ◌≤◌, ◌||◌, Bool, true, false, if◌then◌else◌, is_some, List, [], ◌++◌, Option, Some, None}
+use Rattle.std.specs.Prelude.{◌≡◌, ◌≢◌, ℕ, ◌≤◌, ◌||◌, Bool, true, false, if◌then◌else◌, is_some, List, [], ◌++◌, length, Option, Some, None}
 use Rattle.lsv_dialogue.specs.Events.{Event, heard}
 use Rattle.lsv_disk.specs.Throughout.{OnlyReads}
 use Rattle.lsv_disk.specs.View.{DiskView, HasOwnCause, Image}
 use Rattle.lsv_disk.specs.declared.file.FileId.{FileId}
 use Rattle.lsv_info.specs.declared.times.Exit.{Exit}
-use Rattle.lsv_iolog.specs.Reading.{IsBehind, ViewState}
+use Rattle.lsv_iolog.specs.Reading.{HasCuts, IsBehind, ViewState}
 use Rattle.lsv_iolog.specs.Recovered.{IsOfLog}
 use Rattle.lsv_iolog.specs.declared.fault.ViewFault.TheVariants as views
 use Rattle.lsv_msg.specs.declared.messages.ClientMessage.{ClientMessage}
-use Rattle.lsv_record.specs.Records.{elapsed}
 use Rattle.lsv_record.specs.declared.records.Record.{Record}
 use Rattle.lsv_transcript.specs.Transcript.{ending}
 use Rattle.lsv_defs.specs.Causes.{HasRisen}
 use Rattle.lsv_defs.specs.Pieces.{IsPrefix}
 use Rattle.lsv_send.specs.Faults.{HandsUntil}
-use Rattle.lsv_send.specs.Handing.{Far, HandsOut, HasNoPoint, IsExitBy, Source, TakesEach}
+use Rattle.lsv_send.specs.Handing.{Far, HandsOut, IsExitBy, Source}
 use Rattle.lsv_send.specs.Judging.{is_done}
 use Rattle.lsv_send.specs.Lines.{lines_of}
 use Rattle.lsv_send.specs.Opening.{begins_of, opening_of, stop_of}
@@ -49,7 +48,7 @@ told_start begun d = record { source = begun.source d; disk = begun.disk; printe
 
 -- how far a sender is
 abbrev pub far_of : Sender → Far
-far_of s = record { place = s.place; known = s.known; rest = s.more; reached = s.reached }
+far_of s = record { place = s.place; known = s.known; sent = s.sent; rest = s.more; exited = s.exited; reached = s.reached }
 
 -- records may be said after it
 abbrev pub StandsAt : Place → ViewState → List Record → DiskView → Type 0
@@ -64,7 +63,7 @@ pub record Told (start : Start) (s : Sender) (disk : DiskView) (events : List Ev
   pub hands : HandsOut start.source start.disk.reads (far_of s) events
   pub stands : StandsAt s.place s.log (start.source.skipped ++ hands.more) disk
   pub opening : s.place ≡ Opening → s.opening ≡ opening_of start.source.what start.source.head
-  pub sent : s.sent ≡ elapsed (start.source.skipped ++ hands.more)
+  pub cuts : HasCuts start.source.number start.source.body.extra start.disk.reads
   pub reads : OnlyReads start.disk disk
 
 -- the sender is of this log
@@ -81,20 +80,10 @@ pub record KeepsStart (old new : Sender) : Type 0 where
   pub number : new.log.number ≡ old.log.number
   pub body : new.log.body ≡ old.log.body
 
--- the sender said what it may
-pub record HasSpoken (s : Sender) : Type 0 where
-  pub point : HasNoPoint s.place s.reached
-  pub left : s.place ≡ Opening → s.begins ≡ Opening
-
--- the sender between two steps: it said what it may, or it hasn't begun, and has an opening to say
-pub record Rests (s : Sender) : Type 0 where
-  pub point : HasNoPoint s.place s.reached
-  pub opening : s.place ≡ Opening → s.opening ≢ []
-
--- the most records that are said at once
-abbrev pub most_of : (stop : Option ℕ) → ℕ
-most_of None = 16
-most_of (Some stop) = 1
+-- the most records that are said at once, if there may be this number of messages
+abbrev pub most_of : (stop : Option ℕ) (most : ℕ) → ℕ
+most_of None most = most
+most_of (Some stop) most = 1
 
 -- the place after an ending
 abbrev pub place_after : Option Exit → Place
@@ -103,7 +92,7 @@ place_after (Some exit) = Closing
 
 -- the sender after all was said, with an exit or without
 abbrev pub ended_by : Bool → Sender → Sender
-ended_by true s = record s { place = Closing; more = true; reached = false }
+ended_by true s = record s { place = Closing; more = true; exited = true; reached = false }
 ended_by false s = record s { place = Over }
 
 -- what an ending changes: the exit is said, if one is to be sent
@@ -115,35 +104,31 @@ pub record Ends (old new : Sender) (image : Image) (ms : List ClientMessage) : T
   pub known : new.known ≡ old.known
   pub sent : new.sent ≡ old.sent
   pub more : new.more ≡ (old.more || is_some exit)
+  pub exited : new.exited ≡ (old.exited || is_some exit)
   pub reached : new.reached ≡ (if is_some exit then false else old.reached)
 
--- a conversation so far, over a disk and a sink
-pub record Talks (disk_tells sink_tells : Type 0) (start : Begins disk_tells) (s : Sender) (disk : DiskView) (printed : List ℕ) (faults : ℕ) (events : List Event) : Type 0 where
+-- a conversation so far, over a disk and a sink, which are the same as at its beginning
+pub record Talks (disk_tells sink_tells : Type 0) (start : Begins disk_tells) (s : Sender) (disk : DiskView) (printed : List ℕ) (faults : ℕ) (same : Type 0) (events : List Event) : Type 0 where
   pub number : s.log.number ≡ start.number
   pub begins : s.begins ≢ Opening
   pub goes_on : is_done s.begins ≡ false
+  -- it begins with its opening, which has two messages
+  pub starts : events ≡ [] → s.place ≡ Opening
+  pub two : s.place ≡ Opening → length s.opening ≡ 2
   pub is : (d : disk_tells) → IsOf (start.source d) s
   pub told : (d : disk_tells) → Told (told_start start d) s disk events
-  pub takes : (d : disk_tells) → TakesEach (start.source d) start.disk.reads events
   pub prints : sink_tells → printed ≡ start.printed ++ lines_of (heard events)
   pub sink : start.faults ≤ faults
   pub counts : (f : FileId) → start.disk.faults f ≤ disk.faults f
-
--- the same between two steps, of the same disk and sink
-pub record Between (disk_tells sink_tells : Type 0) (start : Begins disk_tells) (s : Sender) (disk : DiskView) (printed : List ℕ) (faults : ℕ) (same : Type 0) (events : List Event) : Type 0 where
-  pub talks : Talks disk_tells sink_tells start s disk printed faults events
-  pub rests : Rests s
   pub keeps : same
 
--- what was printed when a step failed: the lines of all that was heard, or by the sink or out of memory a first part of them
+-- what was printed when a call failed: the lines of all that was heard, or by the sink or out of memory a first part of them
 abbrev pub PrintsAt : SendFault → (lines old new : List ℕ) → Type 0
 PrintsAt faults.Sink lines old new = (front : List ℕ) × IsPrefix front lines × (new ≡ old ++ front)
 PrintsAt faults.NoMem lines old new = (front : List ℕ) × IsPrefix front lines × (new ≡ old ++ front)
 PrintsAt (faults.Log fault) lines old new = new ≡ old ++ lines
-PrintsAt (faults.Strange point) lines old new = new ≡ old ++ lines
-PrintsAt (faults.LongId n) lines old new = new ≡ old ++ lines
 
--- a step of a conversation failed
+-- a call of a conversation failed
 pub record Fails (disk_tells sink_tells : Type 0) (start : Begins disk_tells) (disk : DiskView) (printed : List ℕ) (sink_faults : ℕ) (same : Type 0) (events : List Event) (fault : SendFault) : Type 0 where
   pub told : (d : disk_tells) → HandsUntil (start.source d) start.disk.reads events fault
   pub reads : disk_tells → OnlyReads start.disk disk

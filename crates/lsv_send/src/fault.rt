@@ -2,7 +2,7 @@
 ghost use Rattle.std.specs.Prelude.{◌≡◌};
 ghost use Rattle.lsv_send.specs.declared.fault.SendFault.TheVariants as faults;
 
-use lsv_base::{NoMem, Point, SinkFault};
+use lsv_base::{NoMem, SinkFault};
 use lsv_iolog::ViewFault;
 use std::alloc::AllocError;
 
@@ -13,10 +13,6 @@ pub enum SendFault {
     Log(ViewFault),
     /// A line wasn't printed.
     Sink,
-    /// The server committed more than was sent: this point, or the greatest if it is no time.
-    Strange(Point),
-    /// The server sent an identifier of this many bytes.
-    LongId(u64),
     /// Out of memory.
     NoMem,
 }

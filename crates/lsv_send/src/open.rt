@@ -112,7 +112,7 @@ fn sender(
     stop: Option<Point>,
     sent: u64,
 ) -> Sender
-    ensures { result ≡ record { alloc = alloc; log = log; opening = opening; begins = begins; stop = stop; place = Place.Opening; sent = sent; known = false; more = false; reached = false } }
+    ensures { result ≡ record { alloc = alloc; log = log; opening = opening; begins = begins; stop = stop; place = Place.Opening; sent = sent; known = false; more = false; exited = false; reached = false } }
 {
     Sender {
         alloc,
@@ -124,6 +124,7 @@ fn sender(
         sent,
         known: false,
         more: false,
+        exited: false,
         reached: false,
     }
 }

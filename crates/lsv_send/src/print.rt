@@ -7,6 +7,7 @@ ghost use Rattle.lsv_send.specs.Print.{IsPrintFault, PrintsSome};
 ghost use Rattle.lsv_send.specs.declared.fault.SendFault.TheVariants as faults;
 
 use crate::fault::SendFault;
+use crate::visible::add_visible;
 use itoa::Buffer;
 use lsv_base::{Bytes, NoMem, Sink};
 use lsv_msg::ServerMessage;
@@ -51,7 +52,7 @@ fn id_line(alloc: Global, id: &[u8]) -> Result<Bytes, NoMem>
 {
     let shown = String::from_utf8_lossy(alloc, id)?;
     let mut line = Bytes::of(alloc, b"id ")?;
-    line.add(shown.as_bytes())?;
+    add_visible(&mut line, shown.as_bytes())?;
     line.add(b"\n")?;
     Ok(line)
 }

@@ -1,5 +1,5 @@
 //! What is handed out of a log, and what the server's messages change.
-ghost use Rattle.std.specs.Prelude.{◌≡◌, ◌≢◌, ◌↔◌, ◌++◌, ◌||◌, [], true, false, Err, None, IfOk, IfErr, OnOk, IsTrue, List};
+ghost use Rattle.std.specs.Prelude.{◌≡◌, ◌≢◌, ◌≤◌, ◌<◌, ◌↔◌, ◌++◌, [], length, false, Err, None, IfOk, IfErr, OnOk, OnErr, IsTrue, List};
 ghost use Rattle.lsv_base.specs.Outside.{HasCause};
 ghost use Rattle.lsv_disk.specs.Throughout.{OnlyReads};
 ghost use Rattle.lsv_disk.specs.View.{HasOwnCause};
@@ -9,20 +9,23 @@ ghost use Rattle.lsv_iolog.specs.Faults.{IsNextFault};
 ghost use Rattle.lsv_iolog.specs.Recovered.{IsOfLog};
 ghost use Rattle.lsv_iolog.specs.declared.fault.ViewFault.TheVariants as views;
 ghost use Rattle.lsv_dialogue.specs.Events.{Event, all_said};
-ghost use Rattle.lsv_send.specs.Judging.{hears, hears_late, is_done, is_over, is_silent, judged, judged_id, judged_point};
+ghost use Rattle.lsv_dialogue.specs.Judging.{judged_at};
+ghost use Rattle.lsv_send.specs.Judging.{hears, hears_late, is_done};
 ghost use Rattle.lsv_send.specs.Lines.{line_of};
 ghost use Rattle.lsv_transcript.specs.Transcript.{is_id};
-ghost use Rattle.lsv_send.specs.Print.{IsTakeFault, PrintsBy};
+ghost use Rattle.lsv_send.specs.Print.{IsPrintFault, PrintsSome};
 ghost use Rattle.lsv_send.specs.Faults.{IsStuck, LacksExit};
-ghost use Rattle.lsv_send.specs.Handing.{CanRecord, IsExitBy, IsPast, Source};
+ghost use Rattle.lsv_send.specs.Handing.{CanRecord, IsExitBy, IsPast, IsQuiet, Source, wants_at};
 ghost use Rattle.lsv_send.specs.Reached.{commits, is_point};
-ghost use Rattle.lsv_send.specs.Talks.{Ends, HasSpoken, IsOf, KeepsStart, Told, ended_by, most_of, start_at};
+ghost use Rattle.lsv_send.specs.Talks.{Ends, IsOf, KeepsStart, Told, ended_by, far_of, most_of, start_at};
 ghost use Rattle.lsv_send.specs.declared.fault.SendFault.TheVariants as faults;
 
 use crate::fault::SendFault;
+use crate::look::check_uncut;
 use crate::messages::ending;
 use crate::print::print;
 use lsv_base::{List, Point, Sink};
+use lsv_dialogue::{Judged, Wants, judge};
 use lsv_disk::Disk;
 use lsv_info::Exit;
 use lsv_iolog::{LogView, ViewFault};
@@ -30,12 +33,6 @@ use lsv_msg::{ClientMessage, ServerMessage};
 use lsv_transcript::next_messages;
 use std::alloc::Global;
 use std::mem;
-
-/// No identifier of a server is longer.
-const LONGEST_ID: usize = 4_096;
-
-/// At most this many messages are handed out at once.
-const MOST: usize = 16;
 
 /// How far a log was handed out.
 #[derive(Clone, Copy, Debug, PartialEq, Eq)]
@@ -70,89 +67,76 @@ pub struct Sender {
     pub known: bool,
     /// Whether a record or the exit was handed out.
     pub more: bool,
+    /// Whether the exit was.
+    pub exited: bool,
     /// Whether a commit point at `sent` came after the last message that was handed out.
     pub reached: bool,
 }
 
 impl Sender {
-    /// Whether all that was waited for came: the last commit point, or, if neither a record nor an exit was sent, the
-    /// identifier.
-    pub fn is_over(&self) -> bool
-        ensures { result ≡ is_over self.now }
+    /// What it makes of a message: an identifier may be too long, and a commit point above what was sent.
+    pub fn judge(&self, message: &ServerMessage) -> Judged
+        ensures { result ≡ judged_at self.now.sent message.now }
     {
-        self.place == Place::Over && (!self.more || self.reached)
+        judge(self.sent, message)
     }
 
-    /// Prints the line of a message, and takes it, unless it can't be of a server that has what was sent.
-    pub fn take<K: Sink>(&mut self, sink: &mut K, m: &ServerMessage) -> Result<(), SendFault>
-        ensures ok { OnOk result ((judged self.old m.now ≡ None) × (self.new ≡ hears m.now self.old)) }
-        ensures put { K.tells → OnOk result (K.put sink.new ≡ K.put sink.old ++ line_of m.now) }
-        ensures some { K.tells → IfErr result (λ e. PrintsBy e (line_of m.now) (K.put sink.old) (K.put sink.new)) }
-        ensures fault { IfErr result (IsTakeFault (judged self.old m.now)) }
-        ensures cause { HasCause (result ≡ Err faults.Sink) (K.faults sink.old) (K.faults sink.new) }
+    /// What it wants: to go on, until all that is waited for came. That is the last commit point, or, if neither a record
+    /// nor an exit was sent, the identifier. Then it wants the connection's end if it sent an exit, since a server ends
+    /// the connection once it took that; and else nothing.
+    pub fn wants(&self) -> Wants
+        ensures { result ≡ wants_at (far_of self.now) }
     {
-        self.show(sink, m)?;
-        self.hear(m);
-        Ok(())
+        if self.place != Place::Over || (self.more && !self.reached) {
+            Wants::More
+        } else if self.exited {
+            Wants::End
+        } else {
+            Wants::Nothing
+        }
     }
 
-    /// Does so with a message that comes too late for an answer: a commit point isn't the one that is waited for then.
-    pub fn take_late<K: Sink>(&mut self, sink: &mut K, m: &ServerMessage) -> Result<(), SendFault>
-        ensures ok { OnOk result ((judged self.old m.now ≡ None) × (self.new ≡ hears_late m.now self.old)) }
+    /// Prints the line of a message, and takes it.
+    pub fn hear<K: Sink>(&mut self, sink: &mut K, m: &ServerMessage) -> Result<(), SendFault>
+        ensures ok { OnOk result (self.new ≡ hears m.now self.old) }
         ensures put { K.tells → OnOk result (K.put sink.new ≡ K.put sink.old ++ line_of m.now) }
-        ensures some { K.tells → IfErr result (λ e. PrintsBy e (line_of m.now) (K.put sink.old) (K.put sink.new)) }
-        ensures fault { IfErr result (IsTakeFault (judged self.old m.now)) }
-        ensures cause { HasCause (result ≡ Err faults.Sink) (K.faults sink.old) (K.faults sink.new) }
-    {
-        self.show(sink, m)?;
-        self.known = self.known || is_id(m);
-        Ok(())
-    }
-
-    /// Prints the line of a message, and judges it.
-    fn show<K: Sink>(&self, sink: &mut K, m: &ServerMessage) -> Result<(), SendFault>
-        ensures ok { OnOk result (judged self.now m.now ≡ None) }
-        ensures put { K.tells → OnOk result (K.put sink.new ≡ K.put sink.old ++ line_of m.now) }
-        ensures some { K.tells → IfErr result (λ e. PrintsBy e (line_of m.now) (K.put sink.old) (K.put sink.new)) }
-        ensures fault { IfErr result (IsTakeFault (judged self.now m.now)) }
+        ensures some { K.tells → OnErr result (PrintsSome (line_of m.now) (K.put sink.old) (K.put sink.new)) }
+        ensures fault { IfErr result IsPrintFault }
         ensures cause { HasCause (result ≡ Err faults.Sink) (K.faults sink.old) (K.faults sink.new) }
     {
         print(self.alloc, sink, m)?;
-        match self.judge(m) {
-            Some(fault) => Err(fault),
-            None => Ok(()),
-        }
-    }
-
-    /// Why a message isn't taken, if it isn't.
-    fn judge(&self, m: &ServerMessage) -> Option<SendFault>
-        ensures { result ≡ judged self.now m.now }
-    {
-        if self.is_over() {
-            return None;
-        }
-        match m {
-            ServerMessage::LogId(id) => judge_id(id.as_slice()),
-            ServerMessage::CommitPoint(time) => judge_point(self.sent, time.point()),
-            ServerMessage::Hello(_) | ServerMessage::Error(_) | ServerMessage::Abort(_) => None,
-        }
-    }
-
-    /// Takes a message.
-    fn hear(&mut self, m: &ServerMessage)
-        ensures { self.new ≡ hears m.now self.old }
-    {
         self.known = self.known || is_id(m);
         self.reached = self.reached || commits(self.sent, m);
+        Ok(())
     }
 
-    /// Hands out what may be said next.
-    pub fn say<D: Disk>(&mut self, disk: &mut D) -> Result<List<ClientMessage>, ViewFault>
+    /// Does so with a message that came when not all that was said had been put: a commit point isn't the one that is
+    /// waited for then.
+    pub fn hear_late<K: Sink>(&mut self, sink: &mut K, m: &ServerMessage) -> Result<(), SendFault>
+        ensures ok { OnOk result (self.new ≡ hears_late m.now self.old) }
+        ensures put { K.tells → OnOk result (K.put sink.new ≡ K.put sink.old ++ line_of m.now) }
+        ensures some { K.tells → OnErr result (PrintsSome (line_of m.now) (K.put sink.old) (K.put sink.new)) }
+        ensures fault { IfErr result IsPrintFault }
+        ensures cause { HasCause (result ≡ Err faults.Sink) (K.faults sink.old) (K.faults sink.new) }
+    {
+        print(self.alloc, sink, m)?;
+        self.known = self.known || is_id(m);
+        Ok(())
+    }
+
+    /// Hands out what may be said next after the opening: at most `most` messages.
+    pub fn say<D: Disk>(
+        &mut self,
+        disk: &mut D,
+        most: usize,
+    ) -> Result<List<ClientMessage>, ViewFault>
+        requires some { 0 < most }
         ensures told { D.tells → IfOk result (λ ms. (source : Source) (begun : D) (events : List Event) → IsOf source self.old → Told (start_at source (D.view begun)) self.old (D.view disk.old) events → Told (start_at source (D.view begun)) self.new (D.view disk.new) (events ++ all_said ms)) }
         ensures start { IfOk result (λ _. KeepsStart self.old self.new) }
-        ensures quiet { IfOk result (λ ms. ms ≡ [] → (self.old.place ≡ Place.Opening → self.old.opening ≢ []) → is_silent self.new.place self.new.known ≡ true) }
-        ensures busy { IfOk result (λ ms. ms ≢ [] → is_done self.old.begins ≡ false → is_done self.new.place ≡ false) }
-        ensures after { IfOk result (λ _. HasSpoken self.new) }
+        ensures few { IfOk result (λ ms. length ms ≤ most) }
+        ensures quiet { IfOk result (λ ms. ms ≡ [] → self.old.place ≢ Place.Opening → IsQuiet (far_of self.new)) }
+        ensures busy { IfOk result (λ ms. ms ≢ [] → is_done self.new.place ≡ false) }
+        ensures opened { OnOk result (self.old.place ≢ Place.Opening → self.new.place ≢ Place.Opening) }
         ensures reads { D.tells → OnlyReads (D.view disk.old) (D.view disk.new) }
         ensures going { IfErr result (λ _. CanRecord self.old.place self.old.known) }
         ensures stuck { D.tells → IfErr result (λ fault. (source : Source) (begun : D) (events : List Event) → IsOf source self.old → (t : Told (start_at source (D.view begun)) self.old (D.view disk.old) events) → IsStuck source (D.view begun).reads (source.skipped ++ t.hands.more) fault) }
@@ -160,9 +144,9 @@ impl Sender {
         ensures cause { HasOwnCause (IsOfLog self.old.log.number) (result ≡ Err views.Disk) (D.view disk.old) (D.view disk.new) }
     {
         match self.place {
-            Place::Opening => Ok(self.say_opening()),
+            Place::Opening => Ok(List::new(self.alloc)),
             Place::Waiting if !self.known => Ok(List::new(self.alloc)),
-            Place::Waiting | Place::Records => self.say_records(disk),
+            Place::Waiting | Place::Records => self.say_records(disk, most),
             Place::Closing | Place::Over => {
                 self.place = Place::Over;
                 Ok(List::new(self.alloc))
@@ -171,7 +155,7 @@ impl Sender {
     }
 
     /// Hands out the opening.
-    fn say_opening(&mut self) -> List<ClientMessage>
+    pub fn say_opening(&mut self) -> List<ClientMessage>
         ensures { (result ≡ self.old.opening) × (self.new ≡ record self.old { opening = []; place = self.old.begins; reached = false }) }
     {
         self.place = self.begins;
@@ -179,20 +163,52 @@ impl Sender {
         mem::replace(&mut self.opening, List::new(self.alloc))
     }
 
-    /// Hands out the next records, or after the last one the ending.
-    fn say_records<D: Disk>(&mut self, disk: &mut D) -> Result<List<ClientMessage>, ViewFault>
+    /// Hands out the next records, or after the last one the ending. They are read, then the log is looked at again, and
+    /// only then are they said: the law `a_log_that_was_not_cut_reads_the_same` of lsv_play says why.
+    fn say_records<D: Disk>(
+        &mut self,
+        disk: &mut D,
+        most: usize,
+    ) -> Result<List<ClientMessage>, ViewFault>
         requires place { CanRecord self.old.place self.old.known }
+        requires some { 0 < most }
         ensures told { D.tells → IfOk result (λ ms. (source : Source) (begun : D) (events : List Event) → IsOf source self.old → Told (start_at source (D.view begun)) self.old (D.view disk.old) events → Told (start_at source (D.view begun)) self.new (D.view disk.new) (events ++ all_said ms)) }
         ensures start { IfOk result (λ _. KeepsStart self.old self.new) }
-        ensures quiet { IfOk result (λ ms. ms ≡ [] → is_silent self.new.place self.new.known ≡ true) }
+        ensures few { IfOk result (λ ms. length ms ≤ most) }
+        ensures quiet { IfOk result (λ ms. ms ≡ [] → self.new.place ≡ Place.Over) }
         ensures busy { IfOk result (λ ms. ms ≢ [] → is_done self.new.place ≡ false) }
-        ensures after { IfOk result (λ _. HasSpoken self.new) }
+        ensures opened { OnOk result (self.new.place ≢ Place.Opening) }
         ensures reads { D.tells → OnlyReads (D.view disk.old) (D.view disk.new) }
         ensures stuck { D.tells → IfErr result (λ fault. (source : Source) (begun : D) (events : List Event) → IsOf source self.old → (t : Told (start_at source (D.view begun)) self.old (D.view disk.old) events) → IsStuck source (D.view begun).reads (source.skipped ++ t.hands.more) fault) }
         ensures fault { IfErr result IsNextFault }
         ensures cause { HasOwnCause (IsOfLog self.old.log.number) (result ≡ Err views.Disk) (D.view disk.old) (D.view disk.new) }
     {
-        let most = self.most();
+        let said = self.hand_records(disk, most);
+        check_uncut(disk, &self.log)?;
+        said
+    }
+
+    /// Hands out the next records, or after the last one the ending.
+    fn hand_records<D: Disk>(
+        &mut self,
+        disk: &mut D,
+        most: usize,
+    ) -> Result<List<ClientMessage>, ViewFault>
+        requires place { CanRecord self.old.place self.old.known }
+        requires some { 0 < most }
+        ensures told { D.tells → IfOk result (λ ms. (source : Source) (begun : D) (events : List Event) → IsOf source self.old → Told (start_at source (D.view begun)) self.old (D.view disk.old) events → Told (start_at source (D.view begun)) self.new (D.view disk.new) (events ++ all_said ms)) }
+        ensures same { (self.new.log.number ≡ self.old.log.number) × (self.new.log.body ≡ self.old.log.body) }
+        ensures start { IfOk result (λ _. KeepsStart self.old self.new) }
+        ensures few { IfOk result (λ ms. length ms ≤ most) }
+        ensures quiet { IfOk result (λ ms. ms ≡ [] → self.new.place ≡ Place.Over) }
+        ensures busy { IfOk result (λ ms. ms ≢ [] → is_done self.new.place ≡ false) }
+        ensures opened { OnOk result (self.new.place ≢ Place.Opening) }
+        ensures reads { D.tells → OnlyReads (D.view disk.old) (D.view disk.new) }
+        ensures stuck { D.tells → IfErr result (λ fault. (source : Source) (begun : D) (events : List Event) → IsOf source self.old → (t : Told (start_at source (D.view begun)) self.old (D.view disk.old) events) → IsStuck source (D.view begun).reads (source.skipped ++ t.hands.more) fault) }
+        ensures fault { IfErr result IsNextFault }
+        ensures cause { HasOwnCause (IsOfLog self.old.log.number) (result ≡ Err views.Disk) (D.view disk.old) (D.view disk.new) }
+    {
+        let most = self.most(most);
         let batch = next_messages(self.alloc, disk, &mut self.log, most)?;
         if batch.messages.as_slice().is_empty() {
             return self.say_ending(disk);
@@ -208,13 +224,13 @@ impl Sender {
         Ok(batch.messages)
     }
 
-    /// The most records that are handed out at once: with a stop one, since the next may end after it.
-    fn most(&self) -> usize
-        ensures { result ≡ most_of self.now.stop }
+    /// The most records that are handed out at once, of this number: with a stop one, since the next may end after it.
+    fn most(&self, most: usize) -> usize
+        ensures { result ≡ most_of self.now.stop most }
     {
         match self.stop {
             Some(_) => 1,
-            None => MOST,
+            None => most,
         }
     }
 
@@ -231,10 +247,12 @@ impl Sender {
     /// Hands out the exit, if one is to be sent.
     fn say_ending<D: Disk>(&mut self, disk: &mut D) -> Result<List<ClientMessage>, ViewFault>
         ensures ends { D.tells → IfOk result (λ ms. Ends self.old self.new (D.view disk.old).reads ms) }
+        ensures same { (self.new.log.number ≡ self.old.log.number) × (self.new.log.body ≡ self.old.log.body) }
         ensures start { IfOk result (λ _. KeepsStart self.old self.new) }
-        ensures quiet { IfOk result (λ ms. ms ≡ [] → is_silent self.new.place self.new.known ≡ true) }
+        ensures few { IfOk result (λ ms. length ms ≤ 1) }
+        ensures quiet { IfOk result (λ ms. ms ≡ [] → self.new.place ≡ Place.Over) }
         ensures busy { IfOk result (λ ms. ms ≢ [] → is_done self.new.place ≡ false) }
-        ensures after { IfOk result (λ _. HasSpoken self.new) }
+        ensures opened { OnOk result (self.new.place ≢ Place.Opening) }
         ensures reads { D.tells → OnlyReads (D.view disk.old) (D.view disk.new) }
         ensures damaged { D.tells → (part : Part) → result ≡ Err (views.Damaged part) → (part ≡ parts.Exit) × (self.old.stop ≡ None) × LacksExit self.old.log.number self.old.log.body (D.view disk.old).reads }
         ensures fault { IfErr result IsNextFault }
@@ -269,32 +287,11 @@ impl Sender {
         if is_last {
             self.place = Place::Closing;
             self.more = true;
+            self.exited = true;
             self.reached = false;
         } else {
             self.place = Place::Over;
         }
-    }
-}
-
-/// Why an identifier isn't taken, if it isn't.
-fn judge_id(id: &[u8]) -> Option<SendFault>
-    ensures { result ≡ judged_id id.now }
-{
-    if id.len() > LONGEST_ID {
-        Some(SendFault::LongId(id.len() as u64))
-    } else {
-        None
-    }
-}
-
-/// Why a commit point isn't taken, if it isn't.
-fn judge_point(sent: u64, point: Option<Point>) -> Option<SendFault>
-    ensures { result ≡ judged_point sent point }
-{
-    match point {
-        None => Some(SendFault::Strange(greatest_point())),
-        Some(point) if point.nanos() > sent => Some(SendFault::Strange(point)),
-        Some(_) => None,
     }
 }
 
@@ -332,14 +329,4 @@ fn is_point(sent: u64, point: Option<Point>) -> bool
         Some(point) => point.nanos() == sent,
         None => false,
     }
-}
-
-/// The greatest point.
-fn greatest_point() -> Point
-    ensures { result ≡ 9223372036854775807 }
-{
-    let Some(point) = Point::new((1 << 63) - 1) else {
-        unreachable!();
-    };
-    point
 }

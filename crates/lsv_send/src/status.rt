@@ -10,8 +10,9 @@ use lsv_iolog::LogFault;
 /// How a run of the program ended.
 #[derive(Debug, Drop)]
 pub enum SendStatus {
-    /// All was sent that the words ask for. With records, the server committed them: the last commit point that was
-    /// waited for came. After `-A`, `-R`, or `-i` with no record left, nothing was waited for.
+    /// All was sent that the words ask for. With records or an exit, the server sent the commit point of the last record,
+    /// and it was read after the last message was put. With an exit, the connection then ended: the input's end came, or
+    /// nothing for 30 s. After `-A`, `-R`, or `-i` with no record left, nothing was waited for.
     Sent,
     /// The words are no command.
     Usage,
@@ -59,8 +60,6 @@ impl SendStatus {
             SendFault::Log(fault) => SendStatus::of_log(LogFault::from(fault)),
             SendFault::NoMem => SendStatus::NoMem,
             SendFault::Sink => SendStatus::WriteFault,
-            SendFault::Strange(point) => SendStatus::Refused(Cause::Strange(point)),
-            SendFault::LongId(length) => SendStatus::Refused(Cause::LongId(length)),
         }
     }
 

@@ -4,7 +4,7 @@ ghost use Rattle.std.specs.Prelude.{◌≡◌};
 use crate::fault::SendFault;
 use crate::sender::Sender;
 use lsv_base::{List, Sink};
-use lsv_dialogue::{Judged, Speaker};
+use lsv_dialogue::{Judged, Speaker, Wants};
 use lsv_disk::Disk;
 use lsv_msg::{ClientMessage, ServerMessage};
 
@@ -15,49 +15,55 @@ pub struct World<'a, D, K> {
 }
 
 impl<'a, D: Disk, K: Sink> Speaker<World<'a, D, K>> for Sender {
-    ghost use Rattle.std.specs.Prelude.{◌≡◌, true};
-    ghost use Rattle.lsv_dialogue.specs.declared.ends.Judged.TheVariants as verdicts;
+    ghost use Rattle.std.specs.Prelude.{◌≡◌, ◌≢◌};
+    ghost use Rattle.lsv_dialogue.specs.Judging.{judged_at};
     ghost use Rattle.lsv_send.specs.Begun.{Begun};
-    ghost use Rattle.lsv_send.specs.Judging.{is_over, is_silent};
-    ghost use Rattle.lsv_send.specs.Talks.{Between, Fails};
+    ghost use Rattle.lsv_send.specs.Handing.{IsQuiet, wants_at};
+    ghost use Rattle.lsv_send.specs.Talks.{Fails, Talks, far_of};
+    ghost use Rattle.lsv_send.specs.declared.sender.Place.TheVariants.{Opening};
 
     type Fault = SendFault;
 
     ghost Start = { Begun D D.tells };
 
-    ghost talks = { λ begun s w events. Between D.tells K.tells (record { number = begun.number; source = begun.source; disk = D.view begun.disk; printed = begun.printed; faults = begun.faults }) s (D.view w.disk.now) (K.put w.sink.now) (K.faults w.sink.now)
-        ((w.disk.ghost_name ≡ begun.disk_name) × (w.sink.ghost_name ≡ begun.sink_name)) events };
+    ghost manner = { λ begun. record {
+      talks = λ s w events. Talks D.tells K.tells (record { number = begun.number; source = begun.source; disk = D.view begun.disk; printed = begun.printed; faults = begun.faults }) s (D.view w.disk.now) (K.put w.sink.now) (K.faults w.sink.now)
+          ((w.disk.ghost_name ≡ begun.disk_name) × (w.sink.ghost_name ≡ begun.sink_name)) events;
+      fails = λ s w events fault. Fails D.tells K.tells (record { number = begun.number; source = begun.source; disk = D.view begun.disk; printed = begun.printed; faults = begun.faults }) (D.view w.disk.now) (K.put w.sink.now) (K.faults w.sink.now)
+          ((w.disk.ghost_name ≡ begun.disk_name) × (w.sink.ghost_name ≡ begun.sink_name)) events fault;
+      judges = λ s m. judged_at s.sent m;
+      opened = λ s. s.place ≢ Opening;
+      quiet = λ s. IsQuiet (far_of s);
+      wants = λ s. wants_at (far_of s);
+    } };
 
-    ghost fails = { λ begun s w events fault. Fails D.tells K.tells (record { number = begun.number; source = begun.source; disk = D.view begun.disk; printed = begun.printed; faults = begun.faults }) (D.view w.disk.now) (K.put w.sink.now) (K.faults w.sink.now)
-        ((w.disk.ghost_name ≡ begun.disk_name) × (w.sink.ghost_name ≡ begun.sink_name)) events fault };
+    fn judge(&self, message: &ServerMessage) -> Judged {
+        Sender::judge(self, message)
+    }
 
-    ghost judges = { λ s m. verdicts.Takes };
+    fn wants(&self) -> Wants {
+        Sender::wants(self)
+    }
 
-    ghost is_quiet = { λ s. is_silent s.place s.known ≡ true };
-
-    ghost over = { λ s. is_over s };
-
-    /// It takes each message: one that can't be is a fault of the step, after its line was printed.
-    fn judge(&self, _message: &ServerMessage) -> Judged {
-        Judged::Takes
+    fn open(&mut self, _world: &mut World<'a, D, K>) -> Result<List<ClientMessage>, SendFault> {
+        Ok(self.say_opening())
     }
 
     fn step(
         &mut self,
         world: &mut World<'a, D, K>,
-        got: Option<&ServerMessage>,
+        most: usize,
     ) -> Result<List<ClientMessage>, SendFault> {
-        match got {
-            None => {
-                let messages = self.say(world.disk)?;
-                Ok(messages)
-            }
-            Some(m) => {
-                self.take(world.sink, m)?;
-                let messages = self.say(world.disk)?;
-                Ok(messages)
-            }
-        }
+        let messages = self.say(world.disk, most)?;
+        Ok(messages)
+    }
+
+    fn hear(
+        &mut self,
+        world: &mut World<'a, D, K>,
+        message: &ServerMessage,
+    ) -> Result<(), SendFault> {
+        Sender::hear(self, world.sink, message)
     }
 
     fn hear_late(
@@ -65,10 +71,6 @@ impl<'a, D: Disk, K: Sink> Speaker<World<'a, D, K>> for Sender {
         world: &mut World<'a, D, K>,
         message: &ServerMessage,
     ) -> Result<(), SendFault> {
-        self.take_late(world.sink, message)
-    }
-
-    fn is_over(&self) -> bool {
-        Sender::is_over(self)
+        Sender::hear_late(self, world.sink, message)
     }
 }

@@ -2,7 +2,7 @@ use Rattle.std.proofs.Common.{◌∙◌, ap}
 use Rattle.std.specs.Prelude.{option_map}
 use Rattle.std.proofs.lemmas.Result.{IfErr-weaker, IfOk-weaker}
 use Rattle.lsv_disk.proofs.Composition.{reads_trans}
-use Rattle.lsv_dialogue.proofs.ReadLemmas.{at_exit}
+use Rattle.lsv_send.proofs.Exits.{at_exit}
 use Rattle.lsv_iolog.specs.Faults.{of_view}
 use Rattle.lsv_iolog.specs.Reading.{ViewState}
 use Rattle.lsv_iolog.specs.Recovered.{IsOfLog}

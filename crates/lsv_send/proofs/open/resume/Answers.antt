@@ -1,5 +1,5 @@
 use Rattle.std.proofs.Common.{Bool}
-use Rattle.lsv_dialogue.proofs.ReadLemmas.{at_exit}
+use Rattle.lsv_send.proofs.Exits.{at_exit}
 use Rattle.lsv_iolog.specs.Faults.{of_view}
 use Rattle.lsv_iolog.specs.Recovered.{IsOfLog}
 use Rattle.lsv_iolog.proofs.Results.{view_cause}

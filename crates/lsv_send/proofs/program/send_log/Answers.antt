@@ -12,12 +12,12 @@ returns-in-Err-clause-sends g c = λ d l k. (
 )
 
 pub talk-requires : goal.talk-requires
-talk-requires g c = record { begun = ready_by _ (asked_in c.args.request.now).what c.in-Some.number (g.D.Disk.view c.args.disk.now) (g.D.Disk.view c.open.new.disk) c.in-Ok.sender c.in-Ok.ensures.new c.in-Ok.ensures.opens }
+talk-requires g c = record { begun = ready_by _ (asked_in c.args.request.now).what c.in-Some.number (g.D.Disk.view c.args.disk.now) (g.D.Disk.view c.open.new.disk) c.in-Ok.sender (λ d. c.open.ensures.reads d) c.in-Ok.ensures.new c.in-Ok.ensures.opens }
 
 pub returns-clause-sends : goal.returns-clause-sends
 returns-clause-sends g c = λ d l k.
     let o = c.in-Ok.ensures.opens d in
-    let t = c.talk.ensures.talked d l k (source_of (asked_in c.args.request.now).what c.in-Some.number c.in-Ok.sender o.skipped) (ready_over (asked_in c.args.request.now).what c.in-Some.number (g.D.Disk.view c.args.disk.now) (g.D.Disk.view c.open.new.disk) c.in-Ok.sender c.in-Ok.ensures.new o) in (
+    let t = c.talk.ensures.talked d l k (source_of (asked_in c.args.request.now).what c.in-Some.number c.in-Ok.sender o.skipped) (ready_over (asked_in c.args.request.now).what c.in-Some.number (g.D.Disk.view c.args.disk.now) (g.D.Disk.view c.open.new.disk) c.in-Ok.sender (c.open.ensures.reads d) c.in-Ok.ensures.new o) in (
       t.0,
       t.1,
       sends_log _ (asked_in c.args.request.now) _ c.in-Some.number _ _ c.in-Ok.sender c.as_str.result.now c.talk.result _ _ (sym (c.in-Some.ensures.computed ∙ ap log_no_in c.as_slice.ensures)) c.as_str.ensures.value (c.open.ensures.reads d) c.of_talk.ensures o t.2,

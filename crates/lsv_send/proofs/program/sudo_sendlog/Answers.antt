@@ -18,7 +18,7 @@ pub returns-in-Err-Refused-clause-reads : goal.returns-in-Err-Refused-clause-rea
 returns-in-Err-Refused-clause-reads g c = λ d. read_nothing (g.D.Disk.view c.args.disk.now) (g.met.D.Disk.only_now d c.args.disk.now)
 
 pub returns-in-Err-Refused-clause-link : goal.returns-in-Err-Refused-clause-link
-returns-in-Err-Refused-clause-link g c = link_none statuses.Usage _ (λ e. cc, λ e. cc)
+returns-in-Err-Refused-clause-link g c = link_none statuses.Usage _ (λ e. cc, λ e. cc, λ e. cc)
 
 pub returns-in-Err-Refused-clause-places : goal.returns-in-Err-Refused-clause-places
 returns-in-Err-Refused-clause-places g c = λ d asked asks. absurd (asks_not c.args.words.now asked asks ((rw c.in-Err-Refused.field-0-is at c.in-Err-Refused.ensures.usage) (inl refl)))
@@ -35,7 +35,7 @@ pub returns-in-Err-Unfit-clause-reads : goal.returns-in-Err-Unfit-clause-reads
 returns-in-Err-Unfit-clause-reads g c = λ d. read_nothing (g.D.Disk.view c.args.disk.now) (g.met.D.Disk.only_now d c.args.disk.now)
 
 pub returns-in-Err-Unfit-clause-link : goal.returns-in-Err-Unfit-clause-link
-returns-in-Err-Unfit-clause-link g c = link_none statuses.Usage _ (λ e. cc, λ e. cc)
+returns-in-Err-Unfit-clause-link g c = link_none statuses.Usage _ (λ e. cc, λ e. cc, λ e. cc)
 
 pub returns-in-Err-Unfit-clause-places : goal.returns-in-Err-Unfit-clause-places
 returns-in-Err-Unfit-clause-places g c = λ d asked asks. absurd (asks_not c.args.words.now asked asks ((rw c.in-Err-Unfit.field-0-is at c.in-Err-Unfit.ensures.usage) (inr (_, refl))))
@@ -47,7 +47,7 @@ pub returns-in-Err-NoMem-clause-reads : goal.returns-in-Err-NoMem-clause-reads
 returns-in-Err-NoMem-clause-reads g c = λ d. read_nothing (g.D.Disk.view c.args.disk.now) (g.met.D.Disk.only_now d c.args.disk.now)
 
 pub returns-in-Err-NoMem-clause-link : goal.returns-in-Err-NoMem-clause-link
-returns-in-Err-NoMem-clause-link g c = link_none statuses.NoMem _ (λ e. cc, λ e. cc)
+returns-in-Err-NoMem-clause-link g c = link_none statuses.NoMem _ (λ e. cc, λ e. cc, λ e. cc)
 
 pub returns-clause-runs : goal.returns-clause-runs
 returns-clause-runs g c = λ d l k.
