@@ -3,6 +3,7 @@
 
 mod clock;
 mod command_line;
+mod limit;
 mod port;
 mod standard;
 mod streams;
@@ -10,6 +11,7 @@ mod texts;
 
 pub use clock::WallClock;
 pub use command_line::{ArgumentFault, arguments};
+pub use limit::{clients_of, descriptors_for, fewest_descriptors};
 pub use port::{MioBell, MioPort};
 pub use standard::open_standard;
 pub use streams::{StdScreen, StdSink, StdSource};

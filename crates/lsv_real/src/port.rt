@@ -7,28 +7,30 @@ mod address;
 mod bell;
 mod door;
 mod leaving;
-mod turned_away;
+mod pause;
 mod wakes;
 
+use crate::limit::CLIENTS_OF_PORT;
 use accepted::Accepted;
 use address::advice;
 pub use bell::MioBell;
-use door::Door;
+use door::{Door, Settled};
 use leaving::Leaving;
 use lsv_port::{Gave, Port, PortFault, Ready, Took};
 use lsv_real_disk::Reports;
+use mio::net::TcpStream;
 use std::alloc::{AllocError, Global};
 use std::collections::HashMap;
 use std::io;
 use std::io::ErrorKind;
 use std::net::{Net, SocketAddr};
 use std::sync::Arc;
-use turned_away::TurnedAway;
 use wakes::Wakes;
 
 /// The port of the operating system. All ports of a program share one listening socket, at which the first that
-/// listens begins. A turn that has nothing to tell answers `Woken` after at most 50 ms. A connection that can't be
-/// taken for want of memory or of descriptors waits, or is closed at once and is no link. So is one beyond 128 of all ports.
+/// listens begins. Each port has 128 links at most, and leaves further connections to the others. While all places are taken the socket
+/// doesn't listen, so that the system refuses connections. A turn that has nothing to tell answers `Woken` after at most 50 ms. A
+/// connection that can't be taken for want of memory or of descriptors waits, or is closed at once and is no link.
 #[derive(Drop)]
 pub struct MioPort<N: Net + Drop> {
     /// Who reports failures of the port as a whole, and counts them.
@@ -43,7 +45,6 @@ pub struct MioPort<N: Net + Drop> {
     last: u32,
     /// A turn tells Stop once this many links of all ports were closed.
     stop_after: Option<u32>,
-    turned_away: TurnedAway,
     /// How often a link failed.
     link_faults: u64,
 }
@@ -53,7 +54,7 @@ impl<N: Net + Drop> MioPort<N> {
     pub fn new(rt: HostRuntime, net: N, program: &'static str) -> Result<Self, AllocError>
         ensures { IfOk result (λ p. ⟦<MioPort<N> as Port>⟧.ledger p ≡ ledger_of 0 0) }
     {
-        let door = Arc::new(rt.alloc(), Door::new())?;
+        let door = Arc::new(rt.alloc(), Door::new(&rt))?;
         Ok(MioPort::at(rt, net, program, door, MioBell::new(rt.alloc())?))
     }
 
@@ -64,6 +65,7 @@ impl<N: Net + Drop> MioPort<N> {
         let door = Arc::try_clone(&self.door)?;
         let rt = self.reports.rt;
         let bell = MioBell::new(rt.alloc())?;
+        self.door.count_port();
         Ok(MioPort::at(rt, net, self.reports.program, door, bell))
     }
 
@@ -92,7 +94,6 @@ impl<N: Net + Drop> MioPort<N> {
             leaving: Leaving::new(rt.alloc()),
             last: 0,
             stop_after: None,
-            turned_away: TurnedAway::new(),
             link_faults: 0,
         }
     }
@@ -116,7 +117,9 @@ impl<N: Net + Drop> MioPort<N> {
         ensures turns { self.new.reports.faults ≡ self.old.reports.faults }
         ensures links { self.new.link_faults ≡ self.old.link_faults }
     {
-        if self.is_over() {
+        let is_over = self.is_over();
+        self.settle(is_over);
+        if is_over {
             return Ok(Ready::Stop);
         }
         if let Some(ready) = self.at_once(held) {
@@ -125,7 +128,7 @@ impl<N: Net + Drop> MioPort<N> {
         let Some(wakes) = &mut self.wakes else {
             return Err(ErrorKind::NotConnected.into());
         };
-        wakes.wait(!held.is_empty())?;
+        wakes.wait(held)?;
         self.leaving.drain(&self.reports.rt);
         Ok(self.at_once(held).unwrap_or(Ready::Woken))
     }
@@ -150,16 +153,38 @@ impl<N: Net + Drop> MioPort<N> {
         }
     }
 
-    /// Takes a connection, where one waits and there are descriptors for it. If 128 links of all ports are open, it is closed.
+    /// Takes a connection, where one waits and there is a place for it, of this port and of all. The sockets learn first that there is
+    /// one place less, so that no more connections wait at them than get one.
     fn open(&mut self) -> Option<Ready>
         ensures turns { self.new.reports.faults ≡ self.old.reports.faults }
         ensures links { self.new.link_faults ≡ self.old.link_faults }
     {
-        let mut stream = self.wakes.as_mut()?.accept(self.door.has_room())?;
-        if self.door.is_full() {
-            self.report_turned_away(&Accepted::new(stream));
+        let wakes = self.wakes.as_mut()?;
+        if !wakes.may_accept() {
             return None;
         }
+        let has_room = (self.links.len() as u64) < CLIENTS_OF_PORT && self.door.begin_taking();
+        if !has_room {
+            let _ = wakes.accept(false);
+            return None;
+        }
+        self.settle(false);
+        let taken = self.wakes.as_mut()?.accept(true);
+        self.door.end_taking(taken.is_some());
+        self.settle(false);
+        let ready = self.opened(taken?);
+        if ready.is_none() {
+            self.door.count_lost();
+        }
+        ready
+    }
+
+    /// A connection becomes a link. None if the numbers are used up, or memory ran out.
+    fn opened(&mut self, stream: TcpStream) -> Option<Ready>
+        ensures turns { self.new.reports.faults ≡ self.old.reports.faults }
+        ensures links { self.new.link_faults ≡ self.old.link_faults }
+    {
+        let mut stream = stream;
         let wakes = self.wakes.as_mut()?;
         let link = self.last.checked_add(1)?;
         // What is put is small, and is not to wait for an answer of the peer.
@@ -167,7 +192,6 @@ impl<N: Net + Drop> MioPort<N> {
         wakes.add(&mut stream, link).ok()?;
         self.links.insert(link, Accepted::new(stream)).ok()?;
         self.last = link;
-        self.door.count_opened();
         Some(Ready::Opened(link))
     }
 }
@@ -181,29 +205,73 @@ impl<N: Net + Drop> MioPort<N> {
         }
     }
 
-    /// Says that a link was turned away, at most once a minute.
-    fn report_turned_away(&mut self, accepted: &Accepted)
-        ensures turns { self.new.reports.faults ≡ self.old.reports.faults }
-        ensures links { self.new.link_faults ≡ self.old.link_faults }
-    {
-        if !self.turned_away.is_due(&self.reports.rt) {
+    /// Lets the sockets listen while there are places. Says, at most once a minute, if there are none any more.
+    fn settle(&self, is_over: bool) {
+        match self.door.settle(is_over) {
+            Settled::Same => {}
+            Settled::Full => self.report_full(),
+            Settled::Deaf => self.report_deaf(),
+        }
+    }
+
+    /// Says that all places are taken, at most once a minute.
+    fn report_full(&self) {
+        let rt = &self.reports.rt;
+        if !self.door.full.is_due(rt) {
+            return;
+        }
+        let program = self.reports.program;
+        let places = self.door.places();
+        let port = self.local_addr().map_or(0, |address| address.port());
+        let text = format!(in rt.alloc();
+            "{program}: {places} clients are connected, which is as many as are served: further ones are refused until one leaves; see who they are by ss -tn 'sport = :{port}'"
+        );
+        if let Ok(text) = text {
+            self.reports.say(text.as_str());
+        }
+    }
+
+    /// Says that the sockets can't listen again, at most once a minute.
+    fn report_deaf(&self) {
+        let rt = &self.reports.rt;
+        if !self.door.deaf.is_due(rt) {
+            return;
+        }
+        let program = self.reports.program;
+        let port = self.local_addr().map_or(0, |address| address.port());
+        let text = format!(in rt.alloc();
+            "{program}: port {port}: it can't listen again, since another program listens there: end that; it is tried again all the time"
+        );
+        if let Ok(text) = text {
+            self.reports.say(text.as_str());
+        }
+    }
+
+    /// Says that a link was turned away for want of memory, at most once a minute.
+    fn report_turned_away(&self, accepted: &Accepted) {
+        let rt = &self.reports.rt;
+        if !self.door.turned_away.is_due(rt) {
             return;
         }
         let Some(peer) = accepted.peer() else {
             return;
         };
         let program = self.reports.program;
-        let others = self.door.open();
-        let port = self.local_addr().map_or(0, |address| address.port());
-        let _ = eprintln!(self.reports.rt;
-            "{program}: {others} clients are connected, {peer} was turned away; see who they are by ss -tn 'sport = :{port}'"
+        let text = format!(in rt.alloc();
+            "{program}: {peer} was turned away: memory ran out for it"
         );
+        if let Ok(text) = text {
+            self.reports.say(text.as_str());
+        }
     }
 
     /// Says on standard error why a call of the port as a whole failed, and what to do.
     fn say(&self, what: &str, e: &io::Error, todo: &str) {
         let program = self.reports.program;
-        let _ = eprintln!(self.reports.rt; "{program}: {what}: {e}{todo}");
+        let text = format!(in self.reports.rt.alloc(); "{program}: {what}: {e}{todo}");
+        if let Ok(text) = text {
+            self.reports.say(text.as_str());
+        }
     }
 
     /// Says why it can't listen, unless another port of the program said so: all share one address.
@@ -281,6 +349,7 @@ impl<N: Net + Drop> Port for MioPort<N> {
             return;
         };
         self.door.count_closed();
+        self.settle(self.is_over());
         if !accepted.was_used() {
             self.report_turned_away(&accepted);
         } else if accepted.may_read() {

@@ -8,7 +8,7 @@ use crate::cut_notice::{JOURNAL, cut_in, last_entry};
 use crate::fault::StoreFault;
 use crate::refusal::{is_refused, report_no_store, warn_of_places};
 use crate::reports::Reports;
-use crate::shared::{SharedStore, StoreSlot, release_unused};
+use crate::shared::{Opening, SharedStore, StoreSlot, Wanted, release_unused};
 use crate::store::Store;
 use lsv_bundle::Body;
 use lsv_disk::{Disk, DiskFault, FileId, Owner, Part};
@@ -19,13 +19,13 @@ use std::sync::{Arc, Mutex, Wait};
 /// The nanoseconds of a second.
 const NANOS: u64 = 1_000_000_000;
 
-/// The disk of the operating system. Until `root` has the store's lock each call is a fault, and makes nothing. The disks of a
-/// program, one for each lane, use one store together, and wait for each other by `W`.
+/// The disk of the operating system. A program opens the store by `open_store`, and then each of its disks takes it by `root`. Until
+/// then each call is a fault, and makes nothing. The disks, one for each lane, use the store together, and wait for each other by `W`.
 #[derive(Drop)]
 pub struct FileDisk<W: Wait + Copy> {
     reports: Reports,
     waits: W,
-    /// Where the disks of the program find the store that one of them opened.
+    /// Where the disks of the program find the store that it opened.
     slot: Arc<StoreSlot, Global>,
     store: Option<Store<W>>,
 }
@@ -35,7 +35,7 @@ impl<W: Wait + Copy> FileDisk<W> {
     pub fn new(rt: HostRuntime, waits: W, program: &'static str) -> Result<Self, AllocError>
         ensures { IfOk result (λ d. (f : FileId) → (⟦<FileDisk<W> as Disk>⟧.view d).faults f ≡ 0) }
     {
-        let slot = Arc::new(rt.alloc(), Mutex::new(None))?;
+        let slot = Arc::new(rt.alloc(), Mutex::new(Opening::Unopened))?;
         Ok(FileDisk::at(rt, waits, program, slot))
     }
 
@@ -87,41 +87,81 @@ impl<W: Wait + Copy> FileDisk<W> {
         )
     }
 
-    /// The store at these places: the one that other disks of the program use, or else one that it opens. None if it was said
-    /// why it isn't opened.
-    fn store_at(&self, dir: &str, events: &str) -> Option<Result<Store<W>, StoreFault>> {
+    /// Opens the store at these places for the disks of this program, one for each of this many lanes: it takes the locks, looks
+    /// whether the files fit, and then cuts off what stands after the lines of the event logs. If it can't it says why, and changes
+    /// nothing. From then on a disk that is given these places takes this store, and changes nothing by that.
+    pub fn open_store<'x>(&mut self, dir: &'x str, events: &'x str, lanes: u32)
+        ensures { self.new.reports.faults ≡ self.old.reports.faults }
+    {
+        // This disk lets go of an earlier store.
+        self.store = None;
+        self.open_slot(Wanted { dir, events, lanes });
+    }
+
+    /// Opens the store that is wanted, if the program has none that a disk uses.
+    fn open_slot(&self, wanted: Wanted<'_>) {
         let mut guard = self.slot.lock(&self.waits);
         let slot = &mut *guard;
         release_unused(slot);
-        if let Some(shared) = &*slot {
-            return Some(self.joined(shared, dir, events));
-        }
-        warn_of_places(&self.reports.rt, self.reports.program, dir, events);
-        if is_refused(self.reports.rt, self.reports.program, dir, events) {
-            return None;
-        }
-        match SharedStore::open(
-            self.reports.rt,
-            &self.waits,
-            self.reports.program,
-            dir,
-            events,
-        ) {
-            Ok(opened) => Some(self.kept(slot, opened)),
-            Err(fault) => Some(Err(fault)),
+        let is_at = match &*slot {
+            Opening::Open(shared) => Some(shared.is_at(wanted.dir, wanted.events)),
+            Opening::Unopened | Opening::Refused => None,
+        };
+        match is_at {
+            Some(true) => {}
+            Some(false) => {
+                self.report_unopened(wanted.dir, wanted.events, &StoreFault::OtherPlaces);
+            }
+            None => *slot = self.open_at(wanted),
         }
     }
 
-    /// The store that other disks of the program use, if it is at these places.
-    fn joined(
-        &self,
-        shared: &Arc<SharedStore, Global>,
-        dir: &str,
-        events: &str,
-    ) -> Result<Store<W>, StoreFault> {
-        if !shared.is_at(dir, events) {
-            return Err(StoreFault::OtherPlaces);
+    /// Opens the store that is wanted, or says why it can't.
+    fn open_at(&self, wanted: Wanted<'_>) -> Opening {
+        let (rt, program) = (self.reports.rt, self.reports.program);
+        let Wanted { dir, events, .. } = wanted;
+        warn_of_places(&rt, program, dir, events);
+        if is_refused(rt, program, dir, events) {
+            return Opening::Refused;
         }
+        match SharedStore::open(rt, &self.waits, program, wanted) {
+            Ok(opened) => self.shared_by(opened, dir, events),
+            Err(fault) => {
+                self.report_unopened(dir, events, &fault);
+                Opening::Refused
+            }
+        }
+    }
+
+    /// A store that was just opened, for the disks of the program.
+    fn shared_by(&self, opened: SharedStore, dir: &str, events: &str) -> Opening {
+        match shared_of(self.reports.rt.alloc(), opened) {
+            Ok(shared) => Opening::Open(shared),
+            Err(fault) => {
+                self.report_unopened(dir, events, &fault);
+                Opening::Refused
+            }
+        }
+    }
+
+    /// Says why the store at these places isn't opened.
+    fn report_unopened(&self, dir: &str, events: &str, fault: &StoreFault) {
+        report_no_store(&self.reports.rt, self.reports.program, dir, events, fault);
+    }
+
+    /// The store that the program opened, if it is at these places. None if it was said why it isn't opened.
+    fn store_at(&self, dir: &str, events: &str) -> Option<Result<Store<W>, StoreFault>> {
+        let guard = self.slot.lock(&self.waits);
+        match &*guard {
+            Opening::Open(shared) if shared.is_at(dir, events) => Some(self.joined(shared)),
+            Opening::Open(_) => Some(Err(StoreFault::OtherPlaces)),
+            Opening::Unopened => Some(Err(StoreFault::Unopened)),
+            Opening::Refused => None,
+        }
+    }
+
+    /// A store that the program opened, as this disk uses it.
+    fn joined(&self, shared: &Arc<SharedStore, Global>) -> Result<Store<W>, StoreFault> {
         Store::new(
             self.reports.rt,
             self.waits,
@@ -129,29 +169,6 @@ impl<W: Wait + Copy> FileDisk<W> {
             Arc::try_clone(shared)?,
             false,
         )
-    }
-
-    /// A store that was just opened, which the other disks of the program find from now on.
-    fn kept(
-        &self,
-        slot: &mut Option<Arc<SharedStore, Global>>,
-        opened: SharedStore,
-    ) -> Result<Store<W>, StoreFault> {
-        let shared = shared_of(self.reports.rt.alloc(), opened)?;
-        let own = Arc::try_clone(&shared)?;
-        match Store::new(
-            self.reports.rt,
-            self.waits,
-            self.reports.program,
-            own,
-            false,
-        ) {
-            Ok(store) => {
-                *slot = Some(shared);
-                Ok(store)
-            }
-            Err(fault) => Err(fault),
-        }
     }
 
     /// Whether it has a store.
@@ -178,28 +195,41 @@ impl<W: Wait + Copy> FileDisk<W> {
 
     /// Says on standard error what failed. Why there is no store was said by `root`.
     fn report(&self, f: FileId, call: Call, fault: &CallFault) {
-        let program = self.reports.program;
         let Some(store) = &self.store else {
             return;
         };
-        let _ = match (store.place_of(f), fault) {
+        let (alloc, program) = (self.reports.rt.alloc(), self.reports.program);
+        let text = match (store.place_of(f), fault) {
             (Ok(place), CallFault::Io(e)) => {
                 let path = place.path.as_str();
-                eprintln!(self.reports.rt; "{program}: {path}: {call}: {e}")
+                format!(in alloc; "{program}: {path}: {call}: {e}")
             }
             (Ok(place), CallFault::FolderExists) => {
                 let folder = place.folder.as_str();
-                eprintln!(self.reports.rt;
-                    "{program}: {folder}: create: this folder of a new log exists, so the number file is older than the store: nothing in it is changed; end the server, and put seq2 back from a newer copy"
-                )
+                return self.report_exists(store, folder, f.owner);
             }
-            (Err(_), CallFault::Io(e)) => eprintln!(self.reports.rt;
-                "{program}: the store: {call}: {e}"
-            ),
+            (Err(_), CallFault::Io(e)) => { format!(in alloc; "{program}: the store: {call}: {e}") }
             (Err(_), CallFault::FolderExists) => {
-                eprintln!(self.reports.rt; "{program}: the store: {call}: the folder exists")
+                format!(in alloc; "{program}: the store: {call}: the folder exists")
             }
         };
+        if let Ok(text) = text {
+            self.reports.say(text.as_str());
+        }
+    }
+
+    /// Says that the folder of a new log exists, and which number file is at fault.
+    fn report_exists(&self, store: &Store<W>, folder: &str, owner: Owner) {
+        let Ok(numbers) = store.numbers_of(owner) else {
+            return;
+        };
+        let (program, numbers) = (self.reports.program, numbers.as_str());
+        let text = format!(in self.reports.rt.alloc();
+            "{program}: {folder}: create: this folder of a new log exists, so the number file {numbers} is older than the store: nothing in the folder is changed; end the server, and put that file back from a newer copy"
+        );
+        if let Ok(text) = text {
+            self.reports.say(text.as_str());
+        }
     }
 }
 
@@ -213,8 +243,7 @@ fn shared_of(alloc: Global, opened: SharedStore) -> Result<Arc<SharedStore, Glob
 
 /// Says that a client resumes a log, and how many of its records are dropped.
 fn report_resumed<W: Wait + Copy>(
-    rt: &HostRuntime,
-    program: &str,
+    reports: &Reports,
     store: &mut Store<W>,
     journal: FileId,
     entry: Body,
@@ -231,9 +260,13 @@ fn report_resumed<W: Wait + Copy>(
     let of = before.count;
     let dropped = of.saturating_sub(entry.count);
     let (seconds, nanos) = (entry.elapsed / NANOS, entry.elapsed % NANOS);
-    let _ = eprintln!(rt;
+    let program = reports.program;
+    let text = format!(in reports.rt.alloc();
         "{program}: {folder}: a client resumes this log at {seconds}.{nanos:09} s: of its {of} records it drops the last {dropped}"
     );
+    if let Ok(text) = text {
+        reports.say(text.as_str());
+    }
 }
 
 impl<W: Wait + Copy> Disk for FileDisk<W> {
@@ -250,7 +283,7 @@ impl<W: Wait + Copy> Disk for FileDisk<W> {
     ghost only_now = { λ told. absurd told };
 
     fn root(&mut self, dir: &str, events: &str) {
-        // This disk lets go of an earlier store, also where there is no other.
+        // This disk lets go of an earlier store, also if there is no other.
         self.store = None;
         match self.store_at(dir, events) {
             Some(Ok(store)) => self.store = Some(store),
@@ -302,11 +335,10 @@ impl<W: Wait + Copy> Disk for FileDisk<W> {
     }
 
     fn write_at(&mut self, f: FileId, at: u64, bytes: &[u8]) -> Result<(), DiskFault> {
-        let (rt, program) = (self.reports.rt, self.reports.program);
         let answer = match &mut self.store {
             Some(store) => {
                 if let Some(entry) = cut_in(f, bytes) {
-                    report_resumed(&rt, program, store, f, entry);
+                    report_resumed(&self.reports, store, f, entry);
                 }
                 store.write(f, at, bytes)
             }

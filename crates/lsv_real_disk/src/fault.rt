@@ -1,6 +1,7 @@
 // Why a store can't be used.
-use crate::drawn::Uncovered;
+use crate::drawn::WrongNumbers;
 use crate::lock::LockFault;
+use crate::tail::Unfit;
 use std::alloc::AllocError;
 use std::fmt::Display;
 use std::{fmt, io};
@@ -10,20 +11,26 @@ use std::{fmt, io};
 pub enum StoreFault {
     /// Another server has its lock.
     InUse,
-    /// Another server has the lock of the event log.
-    EventsInUse,
+    /// Another server has the lock of the event log of this lane.
+    EventsInUse(u32),
+    /// The program hasn't opened a store.
+    Unopened,
     /// Another disk of this program uses a store at other places.
     OtherPlaces,
     /// Another relay has the lock of relays.
     RelayInUse,
     /// The file of the lock of relays can't be opened or made.
     RelayLock(io::Error),
-    /// There is a log that the number files don't cover.
-    Uncovered(Uncovered),
-    /// No line of the event log ends after this many bytes, which its journal counts.
-    StrangeEvents(u64),
-    /// What stands after the lines of the event log can't be kept.
-    TailNotKept(io::Error),
+    /// These number files are damaged, or don't cover the logs of their lanes.
+    Numbers(Vec<WrongNumbers>),
+    /// The store has another count of lanes than is asked for.
+    Lanes { kept: u32, asked: u32 },
+    /// Another program filled or cut an event log, which was said.
+    Taken,
+    /// The event log of this lane doesn't fit its journal.
+    UnfitEvents(u32, Unfit),
+    /// What stands after the lines of the event log of this lane can't be kept.
+    TailNotKept(u32, io::Error),
     /// A step of opening it failed.
     Io(Step, io::Error),
 }

@@ -86,6 +86,24 @@ impl Handle {
         Ok(())
     }
 
+    /// The same; but if it fails, the file ends where it ended before: no part of the write stands after that.
+    pub fn write_or_cut(&mut self, at: u64, bytes: &[u8]) -> io::Result<()> {
+        let before = self.length()?;
+        let written = self.write(at, bytes);
+        if written.is_err() && self.length()? > before {
+            self.file.set_len(before)?;
+            self.unsynced.end_at(before);
+        }
+        written
+    }
+
+    /// The file was cut at its end, and that is on the disk.
+    pub fn note_end(&mut self) -> io::Result<()> {
+        let length = self.length()?;
+        self.unsynced.end_at(length);
+        Ok(())
+    }
+
     /// Has the system begin to bring a small write to the disk: of several files that are written and then synced, one after
     /// the other, the later ones are there when their syncs are asked for. It is a hint, whose answer doesn't matter: the
     /// sync waits for the write, and tells what failed.

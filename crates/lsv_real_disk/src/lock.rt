@@ -52,10 +52,15 @@ impl EventsLocks {
         }
     }
 
-    /// Takes those of the first event log whose files exist.
-    pub fn take_found(&mut self, alloc: Global, places: &Places) -> Result<(), LockFault> {
+    /// Takes those of a lane's event log whose files exist. Nothing is changed.
+    pub fn take_found(
+        &mut self,
+        alloc: Global,
+        places: &Places,
+        lane: u32,
+    ) -> Result<(), LockFault> {
         for part in [Part::Lines, Part::Slots] {
-            let id = FileId::new(Owner::Events(0), part);
+            let id = FileId::new(Owner::Events(lane), part);
             let Some(place) = places.place_of(alloc, id).map_err(no_memory)? else {
                 continue;
             };
@@ -139,6 +144,33 @@ pub fn lock_folder(rt: &HostRuntime, dir: &str) -> Result<File, LockFault> {
 pub fn lock_file(rt: &HostRuntime, alloc: Global, dir: &str) -> Result<File, LockFault> {
     let path = format!(in alloc; "{dir}/lock").map_err(no_memory)?;
     locked(open_lock(rt, path.as_str())?)
+}
+
+/// The same if the file exists. Nothing is changed.
+pub fn lock_found_file(
+    rt: &HostRuntime,
+    alloc: Global,
+    dir: &str,
+) -> Result<Option<File>, LockFault> {
+    let path = format!(in alloc; "{dir}/lock").map_err(no_memory)?;
+    locked_if_found(open_file(rt, path.as_str()))
+}
+
+/// Takes the lock of the folder of the logs if it exists. Nothing is changed.
+pub fn lock_found_folder(rt: &HostRuntime, dir: &str) -> Result<Option<File>, LockFault> {
+    locked_if_found(File::open(rt, dir))
+}
+
+/// Takes the lock of what was opened. None if it doesn't exist.
+fn locked_if_found(opened: io::Result<File>) -> Result<Option<File>, LockFault> {
+    match opened {
+        Ok(file) => match locked(file) {
+            Ok(file) => Ok(Some(file)),
+            Err(fault) => Err(fault),
+        },
+        Err(e) if e.kind() == ErrorKind::NotFound => Ok(None),
+        Err(e) => Err(LockFault::Io(e)),
+    }
 }
 
 /// Takes the lock of the file `relay.lock` in the folder of the logs, by which relays exclude each other.

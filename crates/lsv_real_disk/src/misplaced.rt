@@ -1,4 +1,4 @@
-// Whether the place of the event log is one that it can't have.
+// Whether the event log, or the folder of the logs, has a place that it can't have.
 ghost use Rattle.std.specs.Prelude.{◌≡◌, ◌<◌, ◌+◌, drop, length};
 ghost use Rattle.lsv_real_disk.specs.Misplaced.{begins_folder, begins_own, is_below, is_in_store, is_own_name};
 
@@ -11,7 +11,7 @@ use std::{fs, io};
 /// A path is looked at through this many of the folders above it, from its end on, for one that exists.
 const MOST_FOLDERS: u32 = 256;
 
-/// Why the event log can't have its place.
+/// Why the event log, or the folder of the logs, can't have its place.
 #[derive(Clone, Copy, Debug, PartialEq, Eq)]
 pub enum Misplaced {
     /// The place is that of the folder of the logs, of one above it, or of a file of the store in it.
@@ -22,6 +22,8 @@ pub enum Misplaced {
     NoFile,
     /// A link has the name, and leads to nothing.
     LinkToNothing,
+    /// The folder of the logs is a link that leads to nothing.
+    LogsLinkToNothing,
 }
 
 /// A place in the folder of another store of this server, by that folder.
@@ -69,7 +71,7 @@ fn store_above(rt: &HostRuntime, alloc: Global, path: &str) -> io::Result<Option
     Ok(None)
 }
 
-/// Why the event log can't have this place, beside logs in this folder. Nothing is changed.
+/// Why the event log can't have this place, or the logs can't have theirs. Nothing is changed.
 pub fn look_at_place(
     rt: &HostRuntime,
     alloc: Global,
@@ -81,20 +83,23 @@ pub fn look_at_place(
     if is_in_store(logs.as_str(), lines.as_str()) {
         return Ok(Some(Misplaced::InStore));
     }
+    if !fs::exists(rt, dir)? && is_link(rt, dir) {
+        return Ok(Some(Misplaced::LogsLinkToNothing));
+    }
     match fs::metadata(rt, events) {
         Ok(metadata) if metadata.is_dir() => Ok(Some(Misplaced::Folder)),
         Ok(metadata) if metadata.is_file() => Ok(None),
         Ok(_) => Ok(Some(Misplaced::NoFile)),
-        Err(e) if e.kind() == ErrorKind::NotFound => Ok(link_to_nothing(rt, events)),
+        Err(e) if e.kind() == ErrorKind::NotFound => {
+            Ok(is_link(rt, events).then_some(Misplaced::LinkToNothing))
+        }
         Err(e) => Err(e),
     }
 }
 
-/// Whether a link has the name of a file that doesn't exist.
-fn link_to_nothing(rt: &HostRuntime, path: &str) -> Option<Misplaced> {
-    fs::symlink_metadata(rt, path)
-        .is_ok()
-        .then_some(Misplaced::LinkToNothing)
+/// Whether a link has the name of something that doesn't exist.
+fn is_link(rt: &HostRuntime, path: &str) -> bool {
+    fs::symlink_metadata(rt, path).is_ok()
 }
 
 /// The whole path of a file, without links and dots, as far as its folders exist.

@@ -17,7 +17,7 @@ pub struct Opened {
     owner: Option<Owner>,
     /// One for each part of which a file was read, of this owner or of others before.
     readers: Vec<Reader>,
-    /// A look begins where a journal is read from its start: of what was read ahead before, nothing is answered.
+    /// A look begins where a journal is read from its start: of what was opened or read ahead before, nothing is answered.
     look: u64,
     log: LogPath,
     /// The path of another file, which was asked for last.
@@ -70,7 +70,7 @@ impl Opened {
         ensures { IfOk result (λ n. n ≤ length buf.old) }
     {
         if f.part == Part::Slots && at == 0 {
-            self.look = self.look.saturating_add(1);
+            self.begin_look();
         }
         let look = self.look;
         match self.file(rt, f)? {
@@ -94,6 +94,17 @@ impl Opened {
             return;
         }
         self.owner = Some(owner);
+        self.close_all();
+    }
+
+    /// A look begins: each file is found by its path again, so a log that was renamed or removed meanwhile is missed.
+    fn begin_look(&mut self) {
+        self.look = self.look.saturating_add(1);
+        self.close_all();
+    }
+
+    /// Closes the open files.
+    fn close_all(&mut self) {
         for reader in self.readers.iter_mut() {
             reader.close();
         }

@@ -1,12 +1,13 @@
 // What is said on standard error of a store that isn't opened, with what to do, and of places that may not be meant.
 use crate::doubt::doubt_of;
-use crate::drawn::Uncovered;
+use crate::drawn::{FarNumbers, Uncovered, Wrong, WrongNumbers};
 use crate::fault::{Step, StoreFault};
 use crate::foreign::{Foreign, foreign_at, was_cut};
 use crate::limit::lacks_descriptor;
 use crate::misplaced::{InOther, Misplaced, look_at_place, look_for_other};
+use crate::path::{Places, lane_path};
+use crate::tail::Unfit;
 use lsv_base::LogNo;
-use std::alloc::Global;
 use std::io::ErrorKind;
 use std::{io, str};
 
@@ -42,7 +43,7 @@ pub fn is_refused(rt: HostRuntime, program: &'static str, dir: &str, events: &st
     }
 }
 
-/// Says why the event log can't have its place.
+/// Says why the event log, or the folder of the logs, can't have its place.
 fn report_misplaced(rt: &HostRuntime, program: &str, dir: &str, events: &str, place: Misplaced) {
     let _ = match place {
         Misplaced::InStore => eprintln!(rt;
@@ -53,6 +54,9 @@ fn report_misplaced(rt: &HostRuntime, program: &str, dir: &str, events: &str, pl
         ),
         Misplaced::NoFile => eprintln!(rt;
             "{program}: {events}: it is no regular file: nothing is changed; let path of [logfile] be another file"
+        ),
+        Misplaced::LogsLinkToNothing => eprintln!(rt;
+            "{program}: {dir}: it is a link to a folder that doesn't exist: nothing is changed; make that folder, or let iolog_dir be the folder itself"
         ),
         Misplaced::LinkToNothing => eprintln!(rt;
             "{program}: {events}: it is a link to a file that doesn't exist: nothing is changed; remove it, or let path of [logfile] be the file itself"
@@ -128,9 +132,7 @@ pub fn report_no_store(
         StoreFault::InUse => {
             eprintln!(rt; "{program}: {dir}: lock: another server uses this store")
         }
-        StoreFault::EventsInUse => {
-            eprintln!(rt; "{program}: {events}: lock: another server uses this event log")
-        }
+        StoreFault::Unopened => eprintln!(rt; "{program}: {dir}: the store wasn't opened"),
         StoreFault::OtherPlaces => eprintln!(rt;
             "{program}: {dir}, {events}: this program uses a store at other places: nothing is changed"
         ),
@@ -140,27 +142,108 @@ pub fn report_no_store(
         StoreFault::RelayLock(e) => eprintln!(rt;
             "{program}: {dir}: relay.lock: {e}: run the relay as the user who runs the server, and let that user own relay.lock"
         ),
-        StoreFault::Uncovered(Uncovered::NoLast) => eprintln!(rt;
-            "{program}: {dir}: it holds logs, and seq2 doesn't tell the last number: put seq2 back from a copy, or let iolog_dir be a new folder; nothing is changed"
+        StoreFault::Lanes { kept, asked } => eprintln!(rt;
+            "{program}: {dir}/seq2: the store was made with --lanes {kept}, and {asked} is asked for: start the server with --lanes {kept}, or let iolog_dir be a new folder and path of [logfile] a new file"
         ),
-        StoreFault::Uncovered(Uncovered::Above { last, log }) => {
-            let (last, log) = (digits_of(*last), digits_of(*log));
-            let (last, log) = (text_of(&last), text_of(&log));
-            eprintln!(rt;
-                "{program}: {dir}: it holds log {log}, and the last number that seq2 tells is {last}: put seq2 back from a newer copy, or let iolog_dir be a new folder; nothing is changed"
-            )
+        StoreFault::Numbers(wrong) => return report_numbers(rt, program, dir, wrong),
+        StoreFault::Taken => return,
+        StoreFault::EventsInUse(lane) => {
+            return report_events(rt, program, events, *lane, EventsFault::InUse);
         }
-        StoreFault::StrangeEvents(counted) => eprintln!(rt;
-            "{program}: {events}: no line ends at byte {counted}, where its journal {events}.slots ends, so the journal is that of another log: nothing is changed; put back the journal that belongs to it, or move both away together"
-        ),
-        StoreFault::TailNotKept(e) => {
-            let todo = advice(e);
-            eprintln!(rt;
-                "{program}: {events}: what stands after the lines that its journal counts can't be kept in a file beside it: {e}: {todo}"
-            )
+        StoreFault::UnfitEvents(lane, unfit) => {
+            return report_events(rt, program, events, *lane, EventsFault::Unfit(*unfit));
+        }
+        StoreFault::TailNotKept(lane, e) => {
+            return report_events(rt, program, events, *lane, EventsFault::NotKept(e));
         }
         StoreFault::Io(step, e) => report_step(rt, program, dir, *step, e),
     };
+}
+
+/// What is wrong with the event log of a lane.
+#[derive(Drop)]
+enum EventsFault<'a> {
+    InUse,
+    Unfit(Unfit),
+    NotKept(&'a io::Error),
+}
+
+/// Says what is wrong with the event log of a lane, by its own name.
+fn report_events(rt: &HostRuntime, program: &str, events: &str, lane: u32, fault: EventsFault<'_>) {
+    let Ok(path) = lane_path(rt.alloc(), events, lane) else {
+        return;
+    };
+    let path = path.as_str();
+    let _ = match fault {
+        EventsFault::InUse => {
+            eprintln!(rt; "{program}: {path}: lock: another server uses this event log")
+        }
+        EventsFault::Unfit(Unfit::Short) => eprintln!(rt;
+            "{program}: {path}: it is absent or shorter than its journal {path}.slots says: if it was rotated, move the journal away too"
+        ),
+        EventsFault::Unfit(Unfit::Strange(counted)) => eprintln!(rt;
+            "{program}: {path}: no line ends at byte {counted}, where its journal {path}.slots ends, so the journal is that of another log: nothing is changed; put back the journal that belongs to it, or move both away together"
+        ),
+        EventsFault::NotKept(e) => {
+            let todo = advice(e);
+            eprintln!(rt;
+                "{program}: {path}: what stands after the lines that its journal counts can't be kept in a file beside it: {e}: {todo}"
+            )
+        }
+    };
+}
+
+/// Says what is wrong with each number file that is, by its own name.
+fn report_numbers(rt: &HostRuntime, program: &str, dir: &str, wrong: &[WrongNumbers]) {
+    for one in wrong {
+        let Ok(numbers) = format!(in rt.alloc(); "{dir}/seq2") else {
+            return;
+        };
+        if let Ok(path) = lane_path(rt.alloc(), numbers.as_str(), one.lane) {
+            report_wrong(rt, program, path.as_str(), one.why);
+        }
+    }
+}
+
+/// Says what is wrong with a number file, and what to do.
+fn report_wrong(rt: &HostRuntime, program: &str, path: &str, why: Wrong) {
+    let _ = match why {
+        Wrong::Uncovered(Uncovered::NoLast) => eprintln!(rt;
+            "{program}: {path}: it has no entry, and the store holds logs of its numbers: put it back from a copy, or let iolog_dir be a new folder; nothing is changed"
+        ),
+        Wrong::Uncovered(Uncovered::Above { last, log }) => {
+            let (last, log) = (digits_of(last), digits_of(log));
+            let (last, log) = (text_of(&last), text_of(&log));
+            eprintln!(rt;
+                "{program}: {path}: its last number is {last}, and the store holds log {log} of its numbers: put it back from a newer copy, or let iolog_dir be a new folder; nothing is changed"
+            )
+        }
+        Wrong::Damaged => eprintln!(rt;
+            "{program}: {path}: it is damaged: put it back from a copy, or let iolog_dir be a new folder; nothing is changed"
+        ),
+        Wrong::Lanes { says, first } => eprintln!(rt;
+            "{program}: {path}: it is of a store with --lanes {says}, and the number file before it says {first}: put back the files that belong together; nothing is changed"
+        ),
+    };
+}
+
+/// Says of which lanes the last number is far above the newest log.
+pub fn report_far(rt: &HostRuntime, program: &str, places: &Places, far: &[FarNumbers]) {
+    for one in far {
+        let dir = places.dir.as_str();
+        let Ok(numbers) = format!(in rt.alloc(); "{dir}/seq2") else {
+            return;
+        };
+        let Ok(path) = lane_path(rt.alloc(), numbers.as_str(), one.lane) else {
+            return;
+        };
+        let path = path.as_str();
+        let (last, newest) = (digits_of(one.last), digits_of(one.newest.unwrap_or(0)));
+        let (last, newest) = (text_of(&last), text_of(&newest));
+        let _ = eprintln!(rt;
+            "{program}: {path}: warning: its last number is {last}, and the newest log is {newest}: if no logs between them were removed, it is damaged: put it back from a copy"
+        );
+    }
 }
 
 /// Says that bytes stood after the lines of the event log, and where they are now.

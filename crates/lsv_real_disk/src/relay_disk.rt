@@ -3,12 +3,14 @@ ghost use Rattle.std.specs.Prelude.{◌+◌, ◌≡◌, IfOk};
 ghost use Rattle.lsv_real_disk.specs.Untold.{untold};
 
 use crate::disk::FileDisk;
-use crate::drawn::uncovered_in;
+use crate::drawn::numbers_in;
 use crate::fault::StoreFault;
 use crate::foreign::{Foreign, foreign_at};
 use crate::look::no_store_in;
+use crate::owner::{OtherOwner, other_owner, report_owner};
+use crate::path::Places;
 use crate::read_only::ReadOnlyDisk;
-use crate::refusal::report_no_store;
+use crate::refusal::{report_far, report_no_store};
 use lsv_disk::{Disk, DiskFault, FileId, Owner, Part};
 use std::alloc::AllocError;
 use std::io;
@@ -52,7 +54,7 @@ impl<W: Wait + Copy> RelayDisk<W> {
             return true;
         }
         match no_store_in(&self.rt, dir) {
-            Ok(None) => self.reports_uncovered(dir, events),
+            Ok(None) => self.reports_owner(dir) || self.reports_numbers(dir, events),
             Ok(Some(reason)) => {
                 let _ = eprintln!(self.rt;
                     "{program}: {dir}: {reason}: start the server, or let iolog_dir be the folder of its logs"
@@ -63,12 +65,33 @@ impl<W: Wait + Copy> RelayDisk<W> {
         }
     }
 
-    /// Says which log the number files don't cover; nothing if they cover all. A run by them would leave out the logs above.
-    fn reports_uncovered(&self, dir: &str, events: &str) -> bool {
-        match uncovered_in(self.rt, self.program, dir) {
+    /// Says that another user owns the store; nothing if none does. What that user can't read would be made in it.
+    fn reports_owner(&self, dir: &str) -> bool {
+        let program = self.program;
+        match other_owner(&self.rt, self.rt.alloc(), dir) {
             Ok(None) => false,
-            Ok(Some(uncovered)) => {
-                let fault = StoreFault::Uncovered(uncovered);
+            Ok(Some(OtherOwner { owner, runs })) => {
+                let _ = eprintln!(self.rt;
+                    "{program}: {dir}: user {owner} owns this store, and user {runs} runs the relay: nothing is changed; run the relay as user {owner}"
+                );
+                true
+            }
+            Err(e) => self.reports_look(dir, &e),
+        }
+    }
+
+    /// Says which number files don't cover the logs of their lanes; nothing if all do. A run by them would leave out logs.
+    fn reports_numbers(&self, dir: &str, events: &str) -> bool {
+        match numbers_in(self.rt, self.program, dir) {
+            Ok(look) if look.wrong.is_empty() => {
+                if let Ok(places) = Places::new(self.rt.alloc(), dir, events) {
+                    report_far(&self.rt, self.program, &places, &look.far);
+                    report_owner(&self.rt, self.program, &places, look.newest);
+                }
+                false
+            }
+            Ok(look) => {
+                let fault = StoreFault::Numbers(look.wrong);
                 report_no_store(&self.rt, self.program, dir, events, &fault);
                 true
             }

@@ -2,12 +2,16 @@
 ghost use Rattle.std.specs.Prelude.{◌≤◌, ◌≡◌, IfOk, OnErr};
 ghost use Rattle.lsv_defs.specs.Causes.{HasRisen};
 
+use crate::notices::Notices;
+
 /// Whose faults are said on standard error, a line each, and how many there were.
 #[derive(Drop)]
 pub struct Reports {
     pub rt: HostRuntime,
     /// The name before each line.
     pub program: &'static str,
+    /// Where its lines go that nobody is to wait for.
+    pub notices: Notices,
     /// At most 2^64 - 1.
     pub faults: u64,
 }
@@ -20,8 +24,14 @@ impl Reports {
         Reports {
             rt,
             program,
+            notices: Notices::new(rt, program),
             faults: 0,
         }
+    }
+
+    /// Says this text in a line, if standard error takes it at once.
+    pub fn say(&self, text: &str) {
+        let _ = eprintln!(self.notices; "{text}");
     }
 
     /// What a call answered, after the caller said why if it failed. A failure is counted, and becomes this fault.

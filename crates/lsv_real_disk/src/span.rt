@@ -1,4 +1,4 @@
-ghost use Rattle.std.specs.Prelude.{◌≡◌, ◌≤◌, min, max};
+ghost use Rattle.std.specs.Prelude.{◌≡◌, ◌≤◌, ◌-◌, min, max};
 
 /// The bytes of a file, from one offset to another, that may not be on the disk: what was written since its last sync that
 /// succeeded, or all of it.
@@ -31,6 +31,20 @@ impl Span {
             from: 0,
             to: u64::MAX,
             failed: false,
+        }
+    }
+
+    /// Those of its bytes that a file of this length has, and at least the last one of the file: with that one the new end can be
+    /// brought to the disk.
+    pub fn within(self, length: u64) -> Self
+        ensures from { result.from ≡ min self.from (min self.to length - 1) }
+        ensures to { result.to ≡ min self.to length }
+    {
+        let to = self.to.min(length);
+        Span {
+            from: self.from.min(to.saturating_sub(1)),
+            to,
+            failed: self.failed,
         }
     }
 

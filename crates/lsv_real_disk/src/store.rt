@@ -3,6 +3,7 @@ ghost use Rattle.std.specs.Prelude.{◌≤◌, IfOk, length};
 
 use crate::bounded::bounded;
 use crate::call::CallFault;
+use crate::drawn::lane_of;
 use crate::fault::{Step, StoreFault, of_step};
 use crate::folders::{FolderMaker, SystemFolders};
 use crate::handle::Handle;
@@ -59,8 +60,8 @@ pub struct Store<W: Wait + Copy> {
     looked: Option<(Owner, bool)>,
     /// The log of which every file existed when it was to be made: nothing is written to it.
     found_whole: Option<Owner>,
-    /// The lanes above 0 whose event logs were looked at, and whether they may be used.
-    admitted: Vec<(u32, bool)>,
+    /// The lane of an event log on which a call failed, and which wasn't opened again since.
+    torn: Option<u32>,
     limit: SizeLimit,
     /// Whether only files of relaying are made and written, beside a server.
     relays: bool,
@@ -69,6 +70,14 @@ pub struct Store<W: Wait + Copy> {
 /// Whether several lanes have files in the folder of an owner's files.
 fn shares_folder(owner: Owner) -> bool {
     matches!(owner, Owner::Numbers(_) | Owner::Events(_))
+}
+
+/// The last of some parts.
+fn last_of(parts: &[Part]) -> Part {
+    match parts {
+        [.., last] => *last,
+        [] => Part::Head,
+    }
 }
 
 /// Whether a folder may be there and fit for use once nobody else of this program makes folders.
@@ -99,10 +108,22 @@ impl<W: Wait + Copy> Store<W> {
             left: HashMap::new(alloc),
             looked: None,
             found_whole: None,
-            admitted: Vec::new(alloc),
+            torn: None,
             limit: SizeLimit::now(),
             relays,
         })
+    }
+
+    /// The path of the number file that numbered a log.
+    pub fn numbers_of(&self, owner: Owner) -> io::Result<String> {
+        let lane = match owner {
+            Owner::Log(n) => lane_of(n, self.shared.lanes),
+            _ => 0,
+        };
+        Ok(
+            self.place_of(FileId::new(Owner::Numbers(lane), Part::Slots))?
+                .path,
+        )
     }
 
     /// The folder and the path of a file.
@@ -152,7 +173,7 @@ impl<W: Wait + Copy> Store<W> {
         making: Making,
     ) -> Result<(), CallFault> {
         self.looked = None;
-        self.admit(owner)?;
+        self.make_room(parts.len())?;
         let folder_made = match self.make_folder(folder, owner, making) {
             Ok(folder_made) => folder_made,
             Err(fault) => {
@@ -173,7 +194,12 @@ impl<W: Wait + Copy> Store<W> {
             files: ticket,
             own_sync,
         };
-        Ok(self.settle_made(&placed, owner, &opened, &folder_made)?)
+        Ok(self.settle_made(
+            &placed,
+            FileId::new(owner, last_of(parts)),
+            &opened,
+            &folder_made,
+        )?)
     }
 
     /// Syncs those of the files that were just made that need it, and their folder where only its own lane syncs it. The number of
@@ -225,22 +251,24 @@ impl<W: Wait + Copy> Store<W> {
         }
     }
 
-    /// Waits until the names of files that were just made are on the disk, with those of their folder and the ones above.
+    /// Waits until the names of files that were just made are on the disk, with those of their folder and the ones above. `last` is
+    /// the last of them.
     fn settle_made(
         &mut self,
         placed: &Placed<'_>,
-        owner: Owner,
+        last: FileId,
         opened: &File,
         made: &FolderMade,
     ) -> io::Result<()> {
         let at_hand = match &made.above {
-            _ if shares_folder(owner) => Some((placed.folder, opened)),
+            _ if shares_folder(last.owner) => Some((placed.folder, opened)),
             Some(above) => Some((folder_of(placed.folder), above)),
             None => None,
         };
         match self.settle(placed, at_hand) {
             Err(e) if lacks_descriptor(&e) => {
-                self.close_oldest()?;
+                // No other file is closed for it: that one would be synced after these were made. This one needs no sync.
+                let _ = self.handles.pop(&last);
                 self.settle(placed, at_hand)
             }
             answer => answer,
@@ -440,7 +468,11 @@ impl<W: Wait + Copy> Store<W> {
 
     /// How many bytes a file has, None where there is none. Its folder is looked for first, and that is remembered until
     /// something else than a length is asked for: who makes a log asks for each of its files, and none is there.
+    ///
+    /// An event log on which a call failed is looked at again from the length of its lines on: what stands after those that count is
+    /// cut off then.
     pub fn length(&mut self, f: FileId) -> io::Result<Option<u64>> {
+        self.settle_torn(f)?;
         if !self.handles.contains(&f) && !self.has_folder(f)? {
             return Ok(None);
         }
@@ -480,20 +512,67 @@ impl<W: Wait + Copy> Store<W> {
 
     /// Writes, and remembers what is to be synced.
     pub fn write(&mut self, f: FileId, at: u64, bytes: &[u8]) -> Result<(), CallFault> {
+        let written = self.write_to(f, at, bytes);
+        self.note_torn(f.owner, written.is_err());
+        written
+    }
+
+    fn write_to(&mut self, f: FileId, at: u64, bytes: &[u8]) -> Result<(), CallFault> {
         self.looked = None;
         if self.found_whole == Some(f.owner) {
             return Err(CallFault::FolderExists);
         }
         self.limit.check(at, bytes.len())?;
         match self.handle(f)? {
+            Some(handle) if f.part == Part::Lines => Ok(handle.write_or_cut(at, bytes)?),
             Some(handle) => Ok(handle.write(at, bytes)?),
             None => Err(ErrorKind::NotFound.into()),
         }
     }
 
+    /// A write or a sync of a file of an owner failed, or didn't. After a failure an event log may have a part of a turn after the
+    /// lines that its journal counts.
+    fn note_torn(&mut self, owner: Owner, has_failed: bool) {
+        if let Owner::Events(lane) = owner
+            && has_failed
+        {
+            self.torn = Some(lane);
+        }
+    }
+
+    /// Cuts off what an event log has after the lines that its journal counts, if a call on it failed since it was opened, and its lines
+    /// are asked for.
+    fn settle_torn(&mut self, f: FileId) -> io::Result<()> {
+        match (f.owner, f.part) {
+            (Owner::Events(lane), Part::Lines) if self.torn == Some(lane) => {
+                self.shared
+                    .settle_events(self.rt, &self.waits, self.program, lane)?;
+                self.note_end(f)?;
+                self.torn = None;
+                Ok(())
+            }
+            _ => Ok(()),
+        }
+    }
+
+    /// A file was cut, so nothing after its end is left to sync.
+    fn note_end(&mut self, f: FileId) -> io::Result<()> {
+        if let Some(handle) = self.handles.get_mut(&f) {
+            return handle.note_end();
+        }
+        // Of a file that is closed the next opening finds the end.
+        Ok(())
+    }
+
     /// Waits until what was written is on the disk. A file that wasn't made in this run may have been made by a
     /// program that was killed, so its folder is synced after it, and the names of that and those above, once.
     pub fn sync(&mut self, f: FileId) -> io::Result<()> {
+        let synced = self.sync_found(f);
+        self.note_torn(f.owner, synced.is_err());
+        synced
+    }
+
+    fn sync_found(&mut self, f: FileId) -> io::Result<()> {
         self.looked = None;
         if !self.handles.contains(&f) && !self.open_file(f)? {
             return Ok(());
@@ -539,33 +618,10 @@ impl<W: Wait + Copy> Store<W> {
         Ok(self.handles.get_mut(&f))
     }
 
-    /// Looks at the event log of a lane above 0 before its first use. If it is refused, each call on it is a fault.
-    fn admit(&mut self, owner: Owner) -> io::Result<()> {
-        let Owner::Events(lane) = owner else {
-            return Ok(());
-        };
-        if lane == 0 || self.is_admitted(lane)? {
-            return Ok(());
-        }
-        Err(ErrorKind::ResourceBusy.into())
-    }
-
-    /// Whether the event log of a lane above 0 may be used.
-    fn is_admitted(&mut self, lane: u32) -> io::Result<bool> {
-        if let Some((_, is_admitted)) = self.admitted.iter().find(|(known, _)| *known == lane) {
-            return Ok(*is_admitted);
-        }
-        let is_admitted = self
-            .shared
-            .admits_events(self.rt, &self.waits, self.program, lane)?;
-        self.admitted.push((lane, is_admitted))?;
-        Ok(is_admitted)
-    }
-
     /// Opens a file. False where it is not there.
     fn open_file(&mut self, f: FileId) -> io::Result<bool> {
-        self.admit(f.owner)?;
         let place = self.place_of(f)?;
+        self.make_room(1)?;
         let answer = match open_file(&self.rt, place.path.as_str()) {
             Err(e) if lacks_descriptor(&e) => {
                 self.close_oldest()?;
@@ -595,10 +651,8 @@ impl<W: Wait + Copy> Store<W> {
         }
     }
 
-    /// Keeps a file open, in the place of the one that was not used for longest where there are too many. It is named where it
-    /// was just made, and else it was found.
+    /// Keeps a file open, for which there is room. It is named if it was just made, and else it was found.
     fn keep(&mut self, f: FileId, file: File, is_named: bool) -> io::Result<()> {
-        self.make_room()?;
         let unsynced = match self.left.get(&f) {
             Some(unsynced) => *unsynced,
             None if is_named => Unsynced::new(),
@@ -615,12 +669,12 @@ impl<W: Wait + Copy> Store<W> {
         }
     }
 
-    /// Closes files until there is room for one more among those that this disk may keep open. With each disk that joins the
-    /// store they are fewer.
-    fn make_room(&mut self) -> io::Result<()> {
+    /// Closes files until there is room for this many more among those that this disk may keep open. With each disk that joins the
+    /// store they are fewer. Room is made before a file is made: closing another one syncs it, and then nothing new is there yet.
+    fn make_room(&mut self, count: usize) -> io::Result<()> {
         let most = files_within(self.descriptors, disks_of(&self.shared));
         for _ in 0..MOST_FILES {
-            if self.handles.len() < most {
+            if self.handles.len().saturating_add(count) <= most {
                 break;
             }
             self.close_oldest()?;

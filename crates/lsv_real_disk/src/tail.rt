@@ -20,22 +20,53 @@ const PIECE: usize = 4096;
 /// At most this many files are kept of what stood after one place.
 const MOST_KEPT: u32 = 100;
 
-/// What an event log has after the lines that its journal counts.
+/// What became of the bytes that an event log had after the lines that its journal counts.
 #[derive(Drop)]
 pub enum Tail {
-    /// No byte, or fewer bytes than the journal counts.
+    /// There were none.
     Empty,
-    /// No line ends after this many bytes, which the journal counts: it is that of another log.
-    Strange(u64),
-    /// This many bytes after those that the journal counts. They are in a file of this name now, and the log ends where they began.
+    /// There were this many. They are in a file of this name now, and the log ends where they began.
     Kept { count: u64, path: String },
     /// The same, and the file had them before: what was cut off once was there again.
     KeptBefore,
 }
 
+/// Why an event log doesn't fit its journal.
+#[derive(Clone, Copy)]
+pub enum Unfit {
+    /// It is absent, or shorter than its journal says.
+    Short,
+    /// No line ends after this many bytes, which the journal counts: it is that of another log.
+    Strange(u64),
+}
+
+/// Why the event log doesn't fit its journal, if it doesn't. Nothing is changed.
+pub fn unfit_events(
+    rt: &HostRuntime,
+    program: &'static str,
+    places: &Places,
+) -> io::Result<Option<Unfit>> {
+    let Some(counted) = committed_length(*rt, program, places)? else {
+        return Ok(None);
+    };
+    let log = match File::open(rt, places.events.as_str()) {
+        Ok(log) => log,
+        Err(e) if e.kind() == ErrorKind::NotFound => return Ok(Some(Unfit::Short)),
+        Err(e) => return Err(e),
+    };
+    if log.metadata()?.len() < counted {
+        return Ok(Some(Unfit::Short));
+    }
+    if ends_line(&log, counted)? {
+        Ok(None)
+    } else {
+        Ok(Some(Unfit::Strange(counted)))
+    }
+}
+
 /// Keeps what the event log has after the lines that its journal counts in a file of its own, and cuts it off, so that the next
-/// line is written over none. A crash leaves such bytes, of a turn that wasn't committed, and so does a log or a journal that
-/// was put back. The caller has the locks of the event log.
+/// line is written over none. A crash leaves such bytes, of a turn that wasn't committed. So do a call that failed, and a log or a
+/// journal that was put back. The caller has the locks of the event log, which fits its journal.
 pub fn keep_tail(rt: &HostRuntime, program: &'static str, places: &Places) -> io::Result<Tail> {
     let log = match open_file(rt, places.events.as_str()) {
         Ok(log) => log,
@@ -44,14 +75,11 @@ pub fn keep_tail(rt: &HostRuntime, program: &'static str, places: &Places) -> io
     };
     let length = log.metadata()?.len();
     let counted = committed_length(*rt, program, places)?.unwrap_or(0);
-    if length < counted {
+    if length <= counted {
         return Ok(Tail::Empty);
     }
     if !ends_line(&log, counted)? {
-        return Ok(Tail::Strange(counted));
-    }
-    if length == counted {
-        return Ok(Tail::Empty);
+        return Err(ErrorKind::InvalidData.into());
     }
     let kept = keep(rt, places.events.as_str(), &log, counted, length)?;
     cut(&log, counted)?;

@@ -86,6 +86,13 @@ impl Unsynced {
         };
     }
 
+    /// The file ends here from now on: nothing after that is left to sync.
+    pub fn end_at(&mut self, length: u64) {
+        if let Some(span) = self.span {
+            self.span = Some(span.within(length));
+        }
+    }
+
     /// Syncs the file. After a sync that failed the system may have let the bytes go and say Ok to the next one, so
     /// they are read and written once more before it: the disk then takes them, or says why not. Where there are none, it
     /// stays a fault: nothing would bring the inode to the disk.

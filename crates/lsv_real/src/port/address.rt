@@ -23,7 +23,7 @@ pub fn listen_at<N: Net>(net: &N, address: &str) -> io::Result<(TcpListener, Opt
 /// can't have its port. With the sysctl net.ipv6.bindv6only it takes IPv6 alone, and a second one takes IPv4. A machine without
 /// IPv6 listens over IPv4.
 fn listen_everywhere<N: Net>(net: &N, port: u16) -> io::Result<(TcpListener, Option<TcpListener>)> {
-    let first = match TcpListener::bind(net, SocketAddr::from((Ipv6Addr::UNSPECIFIED, port))) {
+    let first = match bound(net, SocketAddr::from((Ipv6Addr::UNSPECIFIED, port))) {
         Err(e) if e.kind() != ErrorKind::AddrInUse => {
             return Ok((listen_over_ipv4(net, port)?, None));
         }
@@ -37,14 +37,26 @@ fn listen_everywhere<N: Net>(net: &N, port: u16) -> io::Result<(TcpListener, Opt
     }
 }
 
+/// A socket that listens at an address. If the system chooses the number of its port, the socket is made once more at this number: only
+/// then it keeps the number while it doesn't listen.
+fn bound<N: Net>(net: &N, address: SocketAddr) -> io::Result<TcpListener> {
+    let listener = TcpListener::bind(net, address)?;
+    if address.port() != 0 {
+        return Ok(listener);
+    }
+    let chosen = listener.local_addr()?;
+    drop(listener);
+    TcpListener::bind(net, chosen)
+}
+
 fn listen_over_ipv4<N: Net>(net: &N, port: u16) -> io::Result<TcpListener> {
-    TcpListener::bind(net, SocketAddr::from((Ipv4Addr::UNSPECIFIED, port)))
+    bound(net, SocketAddr::from((Ipv4Addr::UNSPECIFIED, port)))
 }
 
 fn listen_on<N: Net>(net: &N, host: &str, port: u16) -> io::Result<TcpListener> {
     let mut last = ErrorKind::AddrNotAvailable.into();
     for address in (host, port).to_socket_addrs(net)? {
-        match TcpListener::bind(net, address) {
+        match bound(net, address) {
             Ok(listener) => return Ok(listener),
             Err(e) => last = e,
         }

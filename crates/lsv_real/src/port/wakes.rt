@@ -26,12 +26,8 @@ const MOST_EVENTS: usize = 256;
 /// A wait without anything to tell ends after this many milliseconds.
 const LONGEST: u64 = 50;
 
-/// And after this many where links are held, and no bytes went over one since the last wait.
-const SHORT: u64 = 1;
-
-/// But after this many of these waits in a row nothing can move before an event tells it: the messages of one read are taken in fewer
-/// turns.
-const MOST_SHORT: u32 = 64;
+/// No link has this number. A turn that is handed it as held has something to do at once.
+const NO_LINK: u32 = 0;
 
 /// Which connections wait to be taken.
 #[derive(Clone, Copy, PartialEq, Eq)]
@@ -60,8 +56,6 @@ pub struct Wakes {
     next: usize,
     /// Bytes went over a link since the last wait.
     has_moved: bool,
-    /// This many waits in a row began without that.
-    still: u32,
 }
 
 impl Wakes {
@@ -82,7 +76,6 @@ impl Wakes {
             events: Events::with_capacity(alloc, MOST_EVENTS)?,
             next: 0,
             has_moved: false,
-            still: 0,
         })
     }
 
@@ -111,6 +104,11 @@ impl Wakes {
             }
         }
         None
+    }
+
+    /// Whether a connection may wait, and none was taken since the last wait.
+    pub fn may_accept(&self) -> bool {
+        self.queue == Queue::Waiting
     }
 
     /// A connection, where one waits and none was taken since the last wait. Without room it waits on.
@@ -161,14 +159,9 @@ impl Wakes {
             .register(stream, Token(link as usize), both)
     }
 
-    /// Waits until there is something to tell, or a while: less where links are held.
-    pub fn wait(&mut self, holds: bool) -> io::Result<()> {
-        let most = Duration::from_millis(self.most(holds));
-        self.still = if self.has_moved {
-            0
-        } else {
-            self.still.saturating_add(1)
-        };
+    /// Waits until there is something to tell, or a while: not if links are held for which there may be something to do at once.
+    pub fn wait(&mut self, held: &[u32]) -> io::Result<()> {
+        let most = Duration::from_millis(self.most(held));
         self.has_moved = false;
         self.next = 0;
         self.poll.poll(&mut self.events, Some(most))?;
@@ -184,12 +177,12 @@ impl Wakes {
     }
 
     /// How many milliseconds the next wait takes at most.
-    fn most(&self, holds: bool) -> u64 {
-        match self.queue {
-            Queue::Taken => 0,
-            _ if holds && self.has_moved => 0,
-            _ if holds && self.still < MOST_SHORT => SHORT,
-            _ => LONGEST,
+    fn most(&self, held: &[u32]) -> u64 {
+        let holds = !held.is_empty() && self.has_moved;
+        if self.queue == Queue::Taken || holds || held.contains(&NO_LINK) {
+            0
+        } else {
+            LONGEST
         }
     }
 }
