@@ -1,6 +1,7 @@
 pub mod Status
 pub mod Program
 pub mod Causes
+pub mod Check
 pub mod Once
 pub mod Serve
 pub mod Load

@@ -4,7 +4,7 @@ use Rattle.std.specs.List.{list_all}
 use Rattle.std.specs.Str.{is_utf8}
 use Rattle.clap.specs.Words.{fault_of}
 use Rattle.lsv_args.specs.Commands.{commands}
-use Rattle.lsv_args.specs.Reading.{Asked, Once, Serve, Load, Relay, asked}
+use Rattle.lsv_args.specs.Reading.{Asked, Once, Serve, Load, Relay, Check, asked}
 use Rattle.lsv_conf.specs.Lines.{Placed, lines_of}
 use Rattle.lsv_conf.specs.Settings.{settings_of}
 use Rattle.lsv_conf.specs.Settings as conf
@@ -24,6 +24,7 @@ lanes_by (Once o) = 1
 lanes_by (Serve o) = o.lanes
 lanes_by (Load o count) = 1
 lanes_by (Relay o) = 0
+lanes_by (Check o) = 0
 
 -- the lines of a settings file that was found so: where there is none, they are those of an empty one
 abbrev pub lines_in : Option (List ℕ) → List Placed

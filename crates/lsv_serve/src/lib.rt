@@ -12,7 +12,7 @@ mod serve;
 mod status;
 mod text;
 
-pub use laws::{an_empty_store_may_be_served, words_ask_for_few_lanes};
+pub use laws::{an_empty_store_may_be_served, words_ask_for_few_lanes, words_ask_for_few_workers};
 pub use load::serve_load;
 pub use once::run_once;
 pub use outside::{Kept, Options, Outside};

@@ -2,7 +2,7 @@
 
 ghost use Rattle.std.specs.Prelude.{◌≡◌, ◌≤◌, ◌+◌, ◌⊎◌, ℕ, List, [], Option, Some, None, length, slice_get, Err, IfOk, IfErr, OnOk, unwrap_or};
 ghost use Rattle.lsv_args.specs.Reading as told;
-ghost use Rattle.lsv_args.specs.Reading.{Asked, IsInRange, Load, Once, Relay, Serve, asked_in};
+ghost use Rattle.lsv_args.specs.Reading.{Asked, Check, IsInRange, Load, Once, Relay, Serve, asked_in};
 ghost use Rattle.lsv_conf.specs.Lines.{first_refused};
 ghost use Rattle.lsv_conf.specs.Settings.{settings_in};
 ghost use Rattle.lsv_defs.specs.Causes.{HasRisen};
@@ -10,6 +10,7 @@ ghost use Rattle.lsv_event.specs.declared.event.Kind.TheVariants as kinds;
 ghost use Rattle.lsv_lane.specs.Store.{IsFresh};
 ghost use Rattle.lsv_endpoint.specs.Ports.{IsUnopened};
 ghost use Rattle.lsv_serve.specs.Causes.{HasConfCause};
+ghost use Rattle.lsv_serve.specs.Check.{ChecksAs};
 ghost use Rattle.lsv_serve.specs.Load.{LoadsAs};
 ghost use Rattle.lsv_serve.specs.Once.{OnceAs};
 ghost use Rattle.lsv_serve.specs.Program.{AsFound, Asks, lanes_by, lines_in, prompts_of, set_by, upstream_of};
@@ -29,7 +30,7 @@ use lsv_args::{ArgFault, Command, Opts, read_words};
 use lsv_base::{Bytes, Clock, List, Sink, Source, TextFault, Texts};
 use lsv_conf::{Conf, ConfFault, read_conf};
 use lsv_disk::Disk;
-use lsv_forward::RelayNotices;
+use lsv_forward::{Gaps, RelayNotices};
 use lsv_hook::LineWriter;
 use lsv_link::Link;
 use lsv_mask::Search;
@@ -272,7 +273,7 @@ fn load<
 }
 
 /// The command `relay`, by the settings of its file.
-fn relay<S, K, P, D: Disk, C, G, T: Texts, L: Link, N: RelayNotices, B>(
+fn relay<S, K, P, D: Disk, C, G, T: Texts, L: Link, N: RelayNotices + Gaps<D>, B>(
     alloc: Global,
     opts: &Opts,
     out: &mut Outside<S, K, P, D, C, G, T, L, N, B>,
@@ -293,10 +294,25 @@ fn relay<S, K, P, D: Disk, C, G, T: Texts, L: Link, N: RelayNotices, B>(
     }
 }
 
+/// The command `check`, by the settings of its file: it reads them, and no more.
+fn check<T: Texts>(alloc: Global, opts: &Opts, texts: &mut T) -> Status
+    ensures checks { AsFound T.tells opts.now.conf (T.texts texts.old) (λ found. ChecksAs found (T.faults texts.old) (T.faults texts.new) result) }
+    ensures not_usage { result ≡ Status.Usage → ⊥ }
+{
+    let found = match found_file(alloc, texts, opts) {
+        Ok(found) => found,
+        Err(status) => return status,
+    };
+    match conf_in(alloc, &found) {
+        Ok(_) => Status::Served,
+        Err(status) => status,
+    }
+}
+
 /// `sudo_logsrvd`, after its name. The command `once` serves one connection, from the source to the sink; `serve` those that come
-/// at the ports; `load` generated ones, whose summary goes to the sink. The command `relay` sends complete logs to another server.
-/// They go by the settings of their file; if it doesn't exist these are the defaults. Keys that the settings pass over are not
-/// reported by this call.
+/// at the ports; `load` generated ones, whose summary goes to the sink. The command `relay` sends complete logs to another server,
+/// and `check` only reads the settings. They go by the settings of their file; if it doesn't exist these are the defaults. Keys that
+/// the settings pass over are not reported by this call.
 pub fn logsrvd<
     S: Source,
     K: Sink,
@@ -306,7 +322,7 @@ pub fn logsrvd<
     G: Tape + Send + Drop,
     T: Texts,
     L: Link,
-    N: Notices + RelayNotices,
+    N: Notices + RelayNotices + Gaps<D>,
     B: Bell + Sync + Drop,
     F: LineWriter + Sync + Drop,
     J: LineWriter + Sync + Drop,
@@ -341,6 +357,8 @@ pub fn logsrvd<
         out.disk result.0.disk (G.turns out.tape) (G.turns result.0.tape) result.1) }
     ensures relays { (o : told.Options) → Asks words.now (Relay o) → AsFound T.tells o.conf (T.texts out.texts) (λ found. RelaysAs D.view found (T.faults out.texts) (T.faults result.0.texts)
         (relay_of ⟦<D as Disk>⟧ ⟦<L as Link>⟧ out.disk out.link) (relay_of ⟦<D as Disk>⟧ ⟦<L as Link>⟧ result.0.disk result.0.link) result.1) }
+    ensures checks { (o : told.Options) → Asks words.now (Check o) → AsFound T.tells o.conf (T.texts out.texts) (λ found. ChecksAs found (T.faults out.texts) (T.faults result.0.texts) result.1) }
+    ensures beside_check { (o : told.Options) → Asks words.now (Check o) → result.0 ≡ record out { texts = result.0.texts } }
     ensures beside_once { (o : told.Options) → Asks words.now (Once o) → (result.0.ports ≡ out.ports) × (result.0.link ≡ out.link) × (result.0.others ≡ out.others) × (result.0.bells ≡ out.bells) }
     ensures beside_serve { (o : told.Options) → Asks words.now (Serve o) → (result.0.source ≡ out.source) × (result.0.sink ≡ out.sink) × (result.0.link ≡ out.link) }
     ensures beside_load { (o : told.Options) (count : ℕ) → Asks words.now (Load o count) → (result.0.source ≡ out.source) × (result.0.ports ≡ out.ports) × (result.0.link ≡ out.link) × (result.0.others ≡ out.others) × (result.0.bells ≡ out.bells) }
@@ -358,6 +376,11 @@ pub fn logsrvd<
         Command::Relay(opts) => {
             let mut out = out;
             let status = relay(alloc, &opts, &mut out);
+            (out, status)
+        }
+        Command::Check(opts) => {
+            let mut out = out;
+            let status = check(alloc, &opts, &mut out.texts);
             (out, status)
         }
     }

@@ -9,14 +9,14 @@ use crate::outside::{Options, Outside, give_places};
 use crate::status::Status;
 use crate::text::text_of;
 use lsv_disk::{Disk, FileId, Owner, Part};
-use lsv_forward::{ForwardFault, NumbersFault, RelayNotices, forward_logs};
+use lsv_forward::{ForwardFault, Gaps, NumbersFault, RelayNotices, forward_logs};
 use lsv_keeper::StoreFault;
 use lsv_link::Link;
 use std::alloc::Global;
 
 /// Sends each complete log of the store that isn't marked as relayed to the server that the settings name, by rising number, each
 /// on a connection of its own. Files of relaying alone are changed.
-pub fn run_relay<S, K, P, D: Disk, C, G, T, L: Link, N: RelayNotices, B>(
+pub fn run_relay<S, K, P, D: Disk, C, G, T, L: Link, N: RelayNotices + Gaps<D>, B>(
     alloc: Global,
     options: &Options,
     out: &mut Outside<S, K, P, D, C, G, T, L, N, B>,
@@ -41,7 +41,7 @@ pub fn run_relay<S, K, P, D: Disk, C, G, T, L: Link, N: RelayNotices, B>(
 }
 
 /// Sends the logs of the store, whose places the disk was given, to this host.
-fn relay_to<D: Disk, L: Link, N: RelayNotices>(
+fn relay_to<D: Disk, L: Link, N: RelayNotices + Gaps<D>>(
     alloc: Global,
     disk: &mut D,
     link: &mut L,

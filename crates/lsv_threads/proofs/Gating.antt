@@ -1,5 +1,5 @@
 -- One pass of a worker's is another.
-use Rattle.std.proofs.Common.{◌≡◌, ◌≢◌, ℕ, Some, Option, List, set, refl, sym, ap, ◌∙◌, subst}
+use Rattle.std.proofs.Common.{◌≡◌, ◌≢◌, ◌∷◌, ◌++◌, [], ℕ, Some, Option, List, set, refl, sym, ap, ◌∙◌, subst}
 use Rattle.std.specs.Prelude.{slice_get}
 use Rattle.std.proofs.lemmas.List.{length-set}
 use Rattle.std.proofs.lemmas.Option.{slice_get_within}
@@ -11,6 +11,11 @@ use Rattle.lsv_queue.proofs.Places.{one_there, set_at, set_off}
 use Rattle.lsv_session.specs.declared.job.Job.{Job}
 use Rattle.lsv_links.specs.Turns.{AreOf}
 use Rattle.lsv_threads.specs.Gates.{AreOwn, IsSamePass, KeepsGates}
+
+-- one more job of a worker
+pub own_push : (worker : ℕ) (jobs : List Job) (job : Job) → AreOf worker jobs → job.conn.worker ≡ worker → AreOf worker (jobs ++ job ∷ [])
+own_push worker [] job all own = (own, tt)
+own_push worker (j ∷ jobs) job all own = (all.0, own_push worker jobs job all.1 own)
 
 module _ (before : List (InPass Job)) (i : ℕ) (p q : InPass Job) (number : ℕ) (there : slice_get before i ≡ Some p) (same : IsSamePass p q)
     (own : AreOf number p.list.put → AreOf number q.list.put) where

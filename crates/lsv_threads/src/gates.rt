@@ -16,8 +16,8 @@ use std::sync::Wait;
 /// The most lanes of a server.
 pub(crate) const MOST_LANES: usize = 8;
 
-/// The inboxes of all lanes, with a worker's passes. A put of a job that isn't the worker's own is refused, and so is one to
-/// a lane whose jobs hold too much memory.
+/// The inboxes of all lanes, with a worker's passes. A put of a job that isn't the worker's own is refused. So is one to a lane at
+/// which the worker has its share of places or of memory.
 #[derive(Drop)]
 pub struct Gates<'a, R, B> {
     rt: &'a R,
@@ -70,12 +70,10 @@ impl<'a, R, B> Gates<'a, R, B> {
         (passes, touched)
     }
 
-    /// Gives back what was counted and isn't used.
-    pub fn settle(&self)
-    where
-        B: Bell,
-    {
-        self.purse.settle(self.parkings);
+    /// Gives back what was claimed and isn't used.
+    pub fn settle(&self) {
+        self.purse
+            .settle(&self.parkings.shares, self.number as usize);
     }
 
     /// A put to this lane was refused.
@@ -125,7 +123,11 @@ impl<'a, R: Wait, B: Bell> Inbox for Gates<'a, R, B> {
         }
         let place = lane as usize;
         let bytes = job_size(&job);
-        if !self.purse.pay(self.parkings, self.number, place, bytes) {
+        let seq = job.conn.seq;
+        if !self
+            .purse
+            .pay(self.parkings, self.number, place, seq, bytes)
+        {
             self.refuse(lane);
             return Err((job, Full));
         }
@@ -135,7 +137,7 @@ impl<'a, R: Wait, B: Bell> Inbox for Gates<'a, R, B> {
                 Ok(())
             }
             Err(e) => {
-                self.purse.refund(place, bytes);
+                self.purse.refund(self.parkings, self.number, place, bytes);
                 self.refuse(lane);
                 Err(e)
             }

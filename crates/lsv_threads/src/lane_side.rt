@@ -4,7 +4,7 @@ ghost use Rattle.std.specs.Prelude.{◌≡◌, ◌<◌, ◌≤◌, true, false, 
 ghost use Rattle.lsv_threads.specs.LaneSides.{IsFrom, IsOver, IsTurning, gap_of};
 
 use crate::give::give_all;
-use crate::take::{take_jobs, weigh};
+use crate::take::{take_jobs, tally_of};
 use crate::{Meanwhile, Parkings};
 use lsv_port::Bell;
 use lsv_queue::{Gap, InPass, OutPass, Queue};
@@ -136,13 +136,14 @@ impl<L: Lane> LaneSide<L> {
     {
         match take_jobs(rt, alloc, inbox, &mut self.taken) {
             Ok((jobs, gap)) => {
+                let tally = tally_of(jobs.as_slice());
+                parkings.note_taken(self.number as usize, &tally);
                 if jobs.is_empty() {
                     self.rest(rt, outs, parkings, workers, meanwhile);
                     return;
                 }
-                let bytes = weigh(jobs.as_slice());
                 self.work(rt, alloc, outs, parkings, jobs, gap, meanwhile);
-                parkings.unload(self.number as usize, bytes);
+                parkings.note_done(self.number as usize, &tally);
                 return;
             }
             Err(_) => {

@@ -1,5 +1,7 @@
 //! Where threads sleep, and what wakes them.
 
+use crate::shares::Shares;
+use crate::take::Tally;
 use lsv_base::NoMem;
 use lsv_port::Bell;
 use std::alloc::Global;
@@ -8,8 +10,8 @@ use std::sync::atomic::{AtomicU64, Ordering};
 use std::thread::Parker;
 use std::time::Duration;
 
-/// How much memory the jobs of one lane may hold before puts to it are refused: 64 MiB.
-const MOST_BYTES: u64 = 67_108_864;
+/// The most workers of a server.
+const MOST_WORKERS: usize = 64;
 
 /// How long a worker's thread sleeps at most, in milliseconds, if nothing wakes it.
 const WORKER_MILLIS: u64 = 50;
@@ -17,14 +19,14 @@ const WORKER_MILLIS: u64 = 50;
 /// How long the thread of several lanes sleeps at most, in milliseconds.
 const SHORT_MILLIS: u64 = 1;
 
-/// A place to sleep for each lane and each worker, the bell of each worker's port, and the bytes that each lane's inbox
-/// holds. All threads share it. Nothing is promised of it: it decides when a thread goes on, and never what it does.
+/// A place to sleep for each lane and each worker, the bell of each worker's port, and how the inboxes are shared among the
+/// workers. All threads share it. Nothing is promised of it: it decides when a thread goes on, and never what it does.
 #[derive(Drop)]
 pub struct Parkings<B> {
     /// One for each lane, in their order.
     pub lanes: Vec<Parker>,
-    /// The bytes of the jobs that each lane has yet to take, in the lanes' order.
-    pub weights: Vec<AtomicU64>,
+    /// Which places and bytes of the lanes' inboxes are whose.
+    pub shares: Shares,
     /// One for each worker, in their order.
     pub workers: Vec<Parker>,
     /// For each worker, in their order: 1 if it may wait in its port's turn, else 0.
@@ -40,10 +42,8 @@ impl<B: Bell> Parkings<B> {
         B: Drop,
     {
         let mut lane_parkers = Vec::new(alloc);
-        let mut weights = Vec::new(alloc);
         for _ in 0..lanes {
             lane_parkers.push(Parker::new())?;
-            weights.push(AtomicU64::new(0))?;
         }
         let mut worker_parkers = Vec::new(alloc);
         let mut waiting = Vec::new(alloc);
@@ -53,7 +53,7 @@ impl<B: Bell> Parkings<B> {
         }
         Ok(Parkings {
             lanes: lane_parkers,
-            weights,
+            shares: Shares::new(alloc, lanes, workers)?,
             workers: worker_parkers,
             waiting,
             bells,
@@ -123,26 +123,43 @@ impl<B: Bell> Parkings<B> {
         }
     }
 
-    /// Counts these bytes as put to a lane. False, and not counted, if the lane's jobs would then hold more than 64 MiB.
-    /// A lane without jobs takes any. Two workers that ask at the same time may both be let through.
-    pub fn load(&self, lane: usize, bytes: u64) -> bool {
-        match self.weights.as_slice().get(lane) {
-            None => true,
-            Some(weight) => {
-                let held = weight.load(Ordering::SeqCst);
-                if held > 0 && held.saturating_add(bytes) > MOST_BYTES {
-                    return false;
-                }
-                weight.fetch_add(bytes, Ordering::SeqCst);
-                true
+    /// The lane took these jobs: their places are free, and the workers that wait for room at it are woken.
+    pub fn note_taken(&self, lane: usize, tally: &Tally) {
+        for worker in 0..MOST_WORKERS {
+            if tally.jobs[worker] > 0 {
+                self.shares.release(lane, worker, tally.jobs[worker]);
+            }
+        }
+        self.wake_refused(lane);
+    }
+
+    /// The lane did the turn of these jobs: their bytes are free, and the workers that wait for room at it are woken.
+    pub fn note_done(&self, lane: usize, tally: &Tally) {
+        for worker in 0..MOST_WORKERS {
+            if tally.bytes[worker] > 0 {
+                self.shares.unload(lane, worker, tally.bytes[worker]);
+            }
+        }
+        self.wake_refused(lane);
+    }
+
+    /// Wakes the workers that wait for room at a lane.
+    fn wake_refused(&self, lane: usize) {
+        let refused = self.shares.take_refused(lane);
+        if refused == 0 {
+            return;
+        }
+        for worker in 0..MOST_WORKERS {
+            if refused & (1u64 << worker as u32) != 0 {
+                self.shares.note_roomy(worker);
+                self.wake_worker(worker);
             }
         }
     }
 
-    /// Counts these bytes as gone.
-    pub fn unload(&self, lane: usize, bytes: u64) {
-        if let Some(weight) = self.weights.as_slice().get(lane) {
-            weight.fetch_sub(bytes, Ordering::SeqCst);
-        }
+    /// Whether there may be room again where a worker was refused. Then it is noted no more. A worker that asks after it noted that
+    /// it may wait misses nothing: it is rung later.
+    pub fn takes_roomy(&self, worker: usize) -> bool {
+        self.shares.takes_roomy(worker)
     }
 }

@@ -7,6 +7,7 @@ ghost use Rattle.lsv_threads.specs.Served.{AreTurned};
 
 use crate::dealing::{Dealt, deal};
 use crate::running::{Rooms, run_all};
+use crate::shares::inbox_places;
 use crate::sides::{LaneParts, WorkerParts, make_lanes, make_workers, take_lanes, take_workers};
 use crate::{LaneSide, Parkings, WorkerSide};
 use lsv_base::NoMem;
@@ -18,9 +19,6 @@ use lsv_turn::Lane;
 use std::alloc::Global;
 use std::sync::Wait;
 use std::thread::Threads;
-
-/// How many jobs an inbox holds.
-const INBOX: usize = 256;
 
 /// How many replies an outbox holds.
 const OUTBOX: usize = 1024;
@@ -48,7 +46,7 @@ pub(crate) fn prepare<T: Endpoint + Drop, L: Lane + Drop>(
     ensures { IfOk result (λ p. IsPrepared workers lanes p) }
 {
     Ok(Prepared {
-        inboxes: deal(alloc, INBOX, lanes, workers)?,
+        inboxes: deal(alloc, inbox_places(workers), lanes, workers)?,
         outs: deal(alloc, OUTBOX, workers, lanes)?,
         worker_sides: Vec::with_capacity(alloc, workers)?,
         lane_sides: Vec::with_capacity(alloc, lanes)?,

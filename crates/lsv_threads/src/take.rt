@@ -44,11 +44,23 @@ pub(crate) fn take_jobs<R: Wait>(
     Ok((jobs, None))
 }
 
-/// How much memory these jobs are taken to hold.
-pub(crate) fn weigh(jobs: &[Job]) -> u64 {
-    let mut bytes: u64 = 0;
+/// How many jobs of a turn each worker put, and how much memory these are taken to hold. By the rests of the workers' numbers modulo 64.
+#[derive(Drop)]
+pub struct Tally {
+    pub(crate) jobs: [u64; 64],
+    pub(crate) bytes: [u64; 64],
+}
+
+/// Counts these jobs.
+pub(crate) fn tally_of(jobs: &[Job]) -> Tally {
+    let mut tally = Tally {
+        jobs: [0; 64],
+        bytes: [0; 64],
+    };
     for job in jobs {
-        bytes = bytes.wrapping_add(job_size(job));
+        let worker = (job.conn.worker % 64) as usize;
+        tally.jobs[worker] = tally.jobs[worker].wrapping_add(1);
+        tally.bytes[worker] = tally.bytes[worker].wrapping_add(job_size(job));
     }
-    bytes
+    tally
 }

@@ -109,7 +109,8 @@ impl<T: Endpoint> WorkerSide<T> {
         }
     }
 
-    /// One step: takes the replies that are there, and goes on. True if there was a reply.
+    /// One step: takes the replies that are there, and goes on. It doesn't wait if there was a reply, or if there may be room again
+    /// where it was refused. True if so.
     pub fn step<R: Wait, B: Bell>(
         &mut self,
         rt: &R,
@@ -127,10 +128,11 @@ impl<T: Endpoint> WorkerSide<T> {
         let number = self.desk.number as usize;
         parkings.note_waiting(number, true);
         let heard = self.desk.hear(rt, outbox);
-        parkings.note_waiting(number, !heard);
-        self.go_on(rt, alloc, inboxes, parkings, waits, heard);
+        let stirred = parkings.takes_roomy(number) || heard;
+        parkings.note_waiting(number, !stirred);
+        self.go_on(rt, alloc, inboxes, parkings, waits, stirred);
         parkings.note_waiting(number, false);
-        heard
+        stirred
     }
 
     /// Whether all its passes have ended, and each lane's too.

@@ -8,7 +8,10 @@ use std::str;
 
 /// The forms of the commands that are built.
 pub fn show_forms(rt: &HostRuntime) {
-    let _ = eprintln!(rt; "usage: sudo_logsrvd serve [-f FILE] [--lanes N] [--stop-after N]");
+    let _ = eprintln!(rt;
+        "usage: sudo_logsrvd serve [-f FILE] [--lanes N] [--workers N] [--stop-after N]"
+    );
+    let _ = eprintln!(rt; "       sudo_logsrvd check [-f FILE]");
     let _ = eprintln!(rt; "       sudo_logsrvd relay [-f FILE]");
     let _ = eprintln!(rt; "       sudo_logsrvd once [-f FILE]");
     let _ = eprintln!(rt; "       sudo_logsrvd load N [-f FILE]");
@@ -20,16 +23,19 @@ pub fn advise(rt: &HostRuntime, fault: StoreFault, conf: &Conf) {
     let events = text_of(conf.path.as_slice());
     match fault {
         StoreFault::Damaged(f) => match f.owner {
-            Owner::Events(_) => {
+            Owner::Events(lane) => {
+                let lane = after_name(lane);
                 let _ = eprintln!(rt;
-                    "sudo_logsrvd: {events}: it is absent or shorter than its journal {events}.slots says: if it was rotated, move the journal away too"
+                    "sudo_logsrvd: {events}{lane}: it is absent or shorter than its journal {events}{lane}.slots says: if it was rotated, move the journal away too"
                 );
             }
-            _ => {
+            Owner::Numbers(lane) => {
+                let lane = after_name(lane);
                 let _ = eprintln!(rt;
-                    "sudo_logsrvd: {dir}/seq2: it is damaged: put it back from a copy, or let iolog_dir be a new folder"
+                    "sudo_logsrvd: {dir}/seq2{lane}: it is damaged: put it back from a copy, or let iolog_dir be a new folder"
                 );
             }
+            _ => {}
         },
         StoreFault::LanesDiffer { kept, asked } => {
             let _ = eprintln!(rt;
@@ -46,6 +52,20 @@ pub fn advise_relay(rt: &HostRuntime, status: Status) {
         let _ = eprintln!(rt;
             "sudo_logsrvd: nothing is relayed: in [relay] of the settings, relay_host names the other server, and store_first = true asks for it"
         );
+    }
+}
+
+/// What the names of a lane's own files have at their end.
+fn after_name(lane: u32) -> &'static str {
+    match lane {
+        0 => "",
+        1 => ".1",
+        2 => ".2",
+        3 => ".3",
+        4 => ".4",
+        5 => ".5",
+        6 => ".6",
+        _ => ".7",
     }
 }
 

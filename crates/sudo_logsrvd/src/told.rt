@@ -2,10 +2,12 @@
 
 ghost use Rattle.std.specs.Prelude.{◌≡◌};
 
+use crate::keys::tell_passed;
 use lsv_base::{Bytes, TextFault, Texts};
 use lsv_conf::{Conf, ConfFault, Refusals, Refused, RefusedLine, Values, WrongValue, read_conf};
 use std::alloc::Global;
-use std::str;
+use std::os::unix::fs::PermissionsExt;
+use std::{fs, str};
 
 /// This many refused lines are named after the first, so that a file of another kind doesn't fill the journal.
 const MOST_MORE: usize = 49;
@@ -30,11 +32,10 @@ impl<T> ToldTexts<T> {
                 for note in conf.notes.as_slice() {
                     let line = note.line;
                     if let Ok(key) = str::from_utf8(note.key.as_slice()) {
-                        let _ = eprintln!(self.rt;
-                            "sudo_logsrvd: {path}:{line}: warning: {key} is passed over"
-                        );
+                        tell_passed(&self.rt, path, line, key);
                     }
                 }
+                warn_of_number(&self.rt, path, &conf);
                 self.conf = Some(conf);
             }
             Err(ConfFault::Refused(refused)) => tell_refused(&self.rt, path, &refused),
@@ -63,15 +64,48 @@ impl<T: Texts> Texts for ToldTexts<T> {
             }
         };
         match &found {
-            Some(text) => self.tell(alloc, path, text.as_slice()),
+            Some(text) => {
+                warn_of_mode(&self.rt, path);
+                self.tell(alloc, path, text.as_slice());
+            }
             None => {
                 let _ = eprintln!(self.rt;
-                    "sudo_logsrvd: {path}: warning: no such file, so the defaults count"
+                    "sudo_logsrvd: {path}: warning: no such file, so the defaults count: listen_address is *:30343 (every address), iolog_dir is /var/log/sudo-io, path is /var/log/sudo.log"
                 );
                 self.conf = read_conf(alloc, b"").ok();
             }
         }
         Ok(found)
+    }
+}
+
+/// The bit of a mode by which others may write.
+const OTHERS_WRITE: u32 = 0o002;
+
+/// Says that everybody may write the settings, where that is so.
+fn warn_of_mode(rt: &HostRuntime, path: &str) {
+    let Ok(found) = fs::metadata(rt, path) else {
+        return;
+    };
+    if found.is_file() && found.permissions().mode() & OTHERS_WRITE != 0 {
+        let _ = eprintln!(rt;
+            "sudo_logsrvd: {path}: warning: every user may write this file, and so say where the logs go: chmod o-w {path}"
+        );
+    }
+}
+
+/// Says that a host to listen at is a number, which the system takes for an address.
+fn warn_of_number(rt: &HostRuntime, path: &str, conf: &Conf) {
+    let Ok(listen) = str::from_utf8(conf.listen.as_slice()) else {
+        return;
+    };
+    let Some((host, _)) = listen.rsplit_once(':') else {
+        return;
+    };
+    if !host.is_empty() && host.bytes().all(|byte| byte.is_ascii_digit()) {
+        let _ = eprintln!(rt;
+            "sudo_logsrvd: {path}: warning: listen_address: the host {host} is a number, which the system takes for an address (0 is every address): write *:PORT for every address, or the name or address itself"
+        );
     }
 }
 

@@ -1,6 +1,6 @@
 //! What is said of words that are no command.
 
-use lsv_args::MOST_LANES;
+use lsv_args::{MOST_LANES, MOST_WORKERS};
 use lsv_base::{Bytes, List};
 use std::str;
 
@@ -15,6 +15,8 @@ enum Trouble<'w> {
     Unknown(&'w str),
     /// The value of this option is missing.
     NoValue(&'w str),
+    /// The word after this option begins with a hyphen, so it is no value.
+    Hyphen(&'w str, &'w str),
     /// This option stands twice.
     Twice(&'w str),
     /// The value of this option isn't a number of its range.
@@ -34,11 +36,13 @@ const MOST_SERVED: i64 = u32::MAX as i64;
 pub fn say(rt: &HostRuntime, words: &List<Bytes>) {
     match trouble_in(words.as_slice()) {
         Some(Trouble::NoCommand) => {
-            let _ = eprintln!(rt; "sudo_logsrvd: a command is missing: serve, relay, once or load");
+            let _ = eprintln!(rt;
+                "sudo_logsrvd: a command is missing: serve, check, relay, once or load"
+            );
         }
         Some(Trouble::OtherCommand(word)) => {
             let _ = eprintln!(rt;
-                "sudo_logsrvd: {word}: no such command; there are serve, relay, once and load; see sudo_logsrvd(8)"
+                "sudo_logsrvd: {word}: no such command; there are serve, check, relay, once and load; see sudo_logsrvd(8)"
             );
         }
         Some(Trouble::Unknown(word)) => {
@@ -46,6 +50,11 @@ pub fn say(rt: &HostRuntime, words: &List<Bytes>) {
         }
         Some(Trouble::NoValue(option)) => {
             let _ = eprintln!(rt; "sudo_logsrvd: {option} needs a value; see sudo_logsrvd(8)");
+        }
+        Some(Trouble::Hyphen(option, value)) => {
+            let _ = eprintln!(rt;
+                "sudo_logsrvd: {option} needs a value, and {value} is none: a value doesn't begin with a hyphen"
+            );
         }
         Some(Trouble::Twice(option)) => {
             let _ = eprintln!(rt; "sudo_logsrvd: {option} may stand once");
@@ -69,6 +78,7 @@ pub fn say(rt: &HostRuntime, words: &List<Bytes>) {
 fn most_of(option: &str) -> i64 {
     match option {
         "--lanes" => MOST_LANES,
+        "--workers" => MOST_WORKERS,
         "--stop-after" => MOST_SERVED,
         _ => MOST_LOADED,
     }
@@ -78,6 +88,7 @@ fn most_of(option: &str) -> i64 {
 fn meaning_of(option: &str) -> &'static str {
     match option {
         "--lanes" => "the number of lanes",
+        "--workers" => "the number of workers",
         _ => "the number of connections",
     }
 }
@@ -86,7 +97,7 @@ fn meaning_of(option: &str) -> &'static str {
 fn takes(command: &str, option: &str) -> bool {
     match option {
         "-f" => true,
-        "--lanes" | "--stop-after" => command == "serve",
+        "--lanes" | "--workers" | "--stop-after" => command == "serve",
         _ => false,
     }
 }
@@ -97,13 +108,13 @@ fn trouble_in(words: &[Bytes]) -> Option<Trouble<'_>> {
         return Some(Trouble::NoCommand);
     };
     let command = text_of(first);
-    if command != "serve" && command != "relay" && command != "once" && command != "load" {
+    if !is_command(command) {
         return Some(Trouble::OtherCommand(command));
     }
     let mut walk = Walk {
         command,
         due: None,
-        seen: [false; 3],
+        seen: [false; 4],
         has_count: false,
     };
     for word in words {
@@ -112,6 +123,14 @@ fn trouble_in(words: &[Bytes]) -> Option<Trouble<'_>> {
         }
     }
     walk.end()
+}
+
+/// Whether a word is a command.
+fn is_command(word: &str) -> bool {
+    match word {
+        "serve" | "check" | "relay" | "once" | "load" => true,
+        _ => false,
+    }
 }
 
 /// A word; one that isn't UTF-8 shows as empty.
@@ -125,8 +144,8 @@ struct Walk<'w> {
     command: &'w str,
     /// The option whose value is due.
     due: Option<&'w str>,
-    /// Whether `-f`, `--lanes` and `--stop-after` were seen.
-    seen: [bool; 3],
+    /// Whether `-f`, `--lanes`, `--workers` and `--stop-after` were seen.
+    seen: [bool; 4],
     /// Whether the number of a load was seen.
     has_count: bool,
 }
@@ -157,11 +176,12 @@ impl<'w> Walk<'w> {
 
     /// Notes that an option stands there.
     fn note(&mut self, option: &'w str) -> Result<(), Trouble<'w>> {
-        let [file, lanes, stop_after] = self.seen;
+        let [file, lanes, workers, stop_after] = self.seen;
         let (was_seen, seen) = match option {
-            "-f" => (file, [true, lanes, stop_after]),
-            "--lanes" => (lanes, [file, true, stop_after]),
-            _ => (stop_after, [file, lanes, true]),
+            "-f" => (file, [true, lanes, workers, stop_after]),
+            "--lanes" => (lanes, [file, true, workers, stop_after]),
+            "--workers" => (workers, [file, lanes, true, stop_after]),
+            _ => (stop_after, [file, lanes, workers, true]),
         };
         if was_seen {
             return Err(Trouble::Twice(option));
@@ -173,7 +193,7 @@ impl<'w> Walk<'w> {
     /// Takes the value of an option.
     fn take_value(&mut self, option: &'w str, value: &'w str) -> Result<(), Trouble<'w>> {
         if value.starts_with('-') && value != "-" {
-            return Err(Trouble::NoValue(option));
+            return Err(Trouble::Hyphen(option, value));
         }
         if option != "-f" && !is_number(value, most_of(option)) {
             return Err(Trouble::OutOfRange(option, value));

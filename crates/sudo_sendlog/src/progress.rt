@@ -15,7 +15,7 @@ pub struct Progress {
     is_shown: bool,
     /// How many records and exits were written.
     records: Cell<u64>,
-    /// The last commit point in whole seconds, if one came.
+    /// The last commit point in milliseconds, if one came.
     commit: Cell<Option<u64>>,
 }
 
@@ -43,9 +43,9 @@ impl Progress {
         }
     }
 
-    /// This is the last commit point, in whole seconds.
-    pub fn committed(&self, seconds: u64) {
-        self.commit.set(Some(seconds));
+    /// This is the last commit point, in milliseconds.
+    pub fn committed(&self, millis: u64) {
+        self.commit.set(Some(millis));
     }
 
     /// Draws the line.
@@ -55,9 +55,10 @@ impl Progress {
         }
         let records = self.records.get();
         match self.commit.get() {
-            Some(seconds) => {
+            Some(millis) => {
+                let (seconds, millis) = (millis / 1000, millis % 1000);
                 let _ = eprint!(self.rt;
-                    "\r{records} records sent, committed through {seconds} s\x1b[K"
+                    "\r{records} records sent, committed through {seconds}.{millis:03} s\x1b[K"
                 );
             }
             None => {

@@ -1,14 +1,14 @@
 //! What is said of a run on standard error.
 
 use crate::usage;
-use lsv_base::{Bytes, List, Point};
+use lsv_base::{Bytes, List, LogNo, Point};
 use lsv_dialogue::Cause;
-use lsv_disk::Part;
-use lsv_iolog::LogFault;
+use lsv_disk::{Disk, Part};
+use lsv_iolog::{LogFault, LogView};
 use lsv_real::ArgumentFault;
-use lsv_real_disk::is_denied;
+use lsv_real_disk::{ReadOnlyDisk, is_denied};
 use lsv_send::{SendStatus, request_of};
-use lsv_send_args::WordsFault;
+use lsv_send_args::{Request, WordsFault};
 
 /// The forms of the command line.
 const FORMS: &str =
@@ -16,6 +16,9 @@ const FORMS: &str =
 
 /// Nanoseconds a second.
 const NANOS_PER_SEC: u64 = 1_000_000_000;
+
+/// Of a text of the server this number of bytes is shown.
+const MOST_SHOWN: usize = 500;
 
 /// Says why a run failed, if it did.
 pub fn report(rt: &HostRuntime, words: &List<Bytes>, status: &SendStatus) {
@@ -26,7 +29,10 @@ pub fn report(rt: &HostRuntime, words: &List<Bytes>, status: &SendStatus) {
         SendStatus::WriteFault => {
             let _ = eprintln!(rt; "sudo_sendlog: write fault");
         }
-        SendStatus::Refused(cause) => report_cause(rt, cause),
+        SendStatus::Refused(cause) => {
+            report_cause(rt, cause);
+            report_why(rt, words, cause);
+        }
         SendStatus::NoMem => {
             let _ = eprintln!(rt; "sudo_sendlog: out of memory");
         }
@@ -77,22 +83,65 @@ fn report_log(rt: &HostRuntime, words: &List<Bytes>, fault: LogFault) {
                 "sudo_sendlog: {dir} has no log {number:?}; NO is six of 0 to 9 and A to Z, as TSID= shows it"
             );
         }
-        LogFault::Damaged(part) => {
-            let name = name_of(part);
-            let _ = eprintln!(rt; "sudo_sendlog: log {number} is damaged: {name}");
-        }
+        LogFault::Damaged(part) => report_damage(rt, number, part),
         LogFault::NoPoint(point) => {
             let _ = eprint!(rt; "sudo_sendlog: no record of log {number} ends at ");
             report_point(rt, point);
         }
-        _ => {
-            let _ = eprintln!(rt; "sudo_sendlog: log {number} can't be read");
-            if is_denied(rt, dir) {
-                let _ = eprintln!(rt;
-                    "sudo_sendlog: {dir}: only root and the user that runs the server may read this store"
-                );
-            }
-        }
+        _ => report_unreadable(rt, number, dir),
+    }
+}
+
+/// Says which part of the log is at fault. Its slots are, if it changed while it was read.
+fn report_damage(rt: &HostRuntime, number: &str, part: Part) {
+    if part == Part::Slots {
+        let _ = eprintln!(rt;
+            "sudo_sendlog: log {number} was cut by a restart, or removed, while it was sent"
+        );
+        return;
+    }
+    let name = name_of(part);
+    let _ = eprintln!(rt; "sudo_sendlog: log {number} is damaged: {name}");
+}
+
+/// Says that the log can't be read, and what is known of the reason.
+fn report_unreadable(rt: &HostRuntime, number: &str, dir: &str) {
+    let _ = eprintln!(rt; "sudo_sendlog: log {number} can't be read");
+    if dir.is_empty() {
+        say(rt, "the folder of -d is empty");
+    }
+    if is_denied(rt, dir) {
+        let _ = eprintln!(rt;
+            "sudo_sendlog: {dir}: only root and the user that runs the server may read this store"
+        );
+    }
+}
+
+/// Says what else is known of a connection that didn't take all.
+fn report_why(rt: &HostRuntime, words: &List<Bytes>, cause: &Cause) {
+    let Ok(request) = request_of(rt.alloc(), words) else {
+        return;
+    };
+    match cause {
+        Cause::Unreached if request.server.starts_with(':') => say(rt, "the host of -h is empty"),
+        Cause::Ended if lacks_arguments(rt, &request) => say(
+            rt,
+            "the log has no runargv: sudo's own server 1.9.13 crashes on such a log; look whether it still runs",
+        ),
+        _ => {}
+    }
+}
+
+/// Whether the head of a log has no list of the command's arguments, which sudo always sends.
+fn lacks_arguments(rt: &HostRuntime, request: &Request) -> bool {
+    let Some(number) = LogNo::read(request.number.as_slice()) else {
+        return false;
+    };
+    let mut disk = ReadOnlyDisk::new(*rt, "sudo_sendlog");
+    disk.root(request.dir.as_str(), "");
+    match LogView::open(rt.alloc(), &mut disk, number) {
+        Ok(view) => view.head().info.value_of(b"runargv").is_none(),
+        Err(_) => false,
     }
 }
 
@@ -107,12 +156,19 @@ fn report_point(rt: &HostRuntime, point: Point) {
 /// Says why the server didn't take all.
 fn report_cause(rt: &HostRuntime, cause: &Cause) {
     match cause {
-        Cause::NotYet => say(rt, "the server took or sent nothing for 30 seconds"),
+        Cause::Unreached => say(rt, "the server was not reached"),
+        Cause::NotYet => say(
+            rt,
+            "no progress for 30 seconds: the server took no message, and sent no identifier and no later commit point",
+        ),
         Cause::Ended => say(
             rt,
             "the server ended the connection before its last commit point",
         ),
-        Cause::Failed => say(rt, "the connection failed"),
+        Cause::Failed => say(
+            rt,
+            "the connection failed: what was sent last may not have arrived",
+        ),
         Cause::Said(text) => report_said(rt, text),
         Cause::Malformed(_) => say(
             rt,
@@ -144,11 +200,19 @@ fn say(rt: &HostRuntime, line: &str) {
     let _ = eprintln!(rt; "sudo_sendlog: {line}");
 }
 
-/// Says what the server said, with control bytes shown.
+/// Says what the server said: the first bytes of it, with control characters shown.
 fn report_said(rt: &HostRuntime, text: &Bytes) {
-    if let Ok(text) = String::from_utf8_lossy(rt.alloc(), text.as_slice()) {
-        let text = text.as_str();
-        let _ = eprintln!(rt; "sudo_sendlog: the server says {text:?}");
+    let all = text.as_slice();
+    let length = all.len();
+    let first = &all[..length.min(MOST_SHOWN)];
+    let Ok(shown) = String::from_utf8_lossy(rt.alloc(), first) else {
+        return;
+    };
+    let shown = shown.as_str();
+    if length > MOST_SHOWN {
+        let _ = eprintln!(rt; "sudo_sendlog: the server says {shown:?} .. ({length} bytes)");
+    } else {
+        let _ = eprintln!(rt; "sudo_sendlog: the server says {shown:?}");
     }
 }
 

@@ -10,6 +10,8 @@ enum Trouble<'w> {
     Unknown(&'w [u8]),
     /// The value of this option is missing.
     NoValue(u8),
+    /// The word after this option begins with a hyphen, so it is no value.
+    Hyphen(u8, &'w [u8]),
     /// This option stands twice.
     Twice(u8),
     /// The identifier is missing.
@@ -33,6 +35,13 @@ pub fn say(rt: &HostRuntime, words: &List<Bytes>) {
         Some(Trouble::NoValue(letter)) => {
             let letter = letter as char;
             let _ = eprintln!(rt; "sudo_sendlog: -{letter} needs a value; see sudo_sendlog(8)");
+        }
+        Some(Trouble::Hyphen(letter, word)) => {
+            let letter = letter as char;
+            let word = text_of(word);
+            let _ = eprintln!(rt;
+                "sudo_sendlog: -{letter} needs a value, and {word} is none: a value doesn't begin with a hyphen"
+            );
         }
         Some(Trouble::Twice(letter)) => {
             let letter = letter as char;
@@ -67,7 +76,7 @@ fn trouble_in(words: &[Bytes]) -> Option<Trouble<'_>> {
     for word in words {
         let word = word.as_slice();
         match (due, word) {
-            (Some(letter), [b'-', _, ..]) => return Some(Trouble::NoValue(letter)),
+            (Some(letter), [b'-', _, ..]) => return Some(Trouble::Hyphen(letter, word)),
             (Some(_), _) => due = None,
             (None, b"--") if is_open => is_open = false,
             (None, [b'-', letters @ ..]) if is_open && !letters.is_empty() => {

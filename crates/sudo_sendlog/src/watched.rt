@@ -100,6 +100,10 @@ impl<'p, L: Link> Link for WatchedLink<'p, L> {
         gave
     }
 
+    fn renew(&mut self) {
+        self.link.renew();
+    }
+
     fn close(&mut self) {
         self.link.close();
     }
@@ -118,11 +122,13 @@ impl<'p, K: Sink> WatchedSink<'p, K> {
     }
 }
 
-/// The whole seconds in the line of a commit point.
-fn seconds_in(line: &[u8]) -> Option<u64> {
+/// The milliseconds in the line of a commit point, which has nine digits after its point.
+fn millis_in(line: &[u8]) -> Option<u64> {
     let line = str::from_utf8(line).ok()?;
-    let (seconds, _) = line.strip_prefix("commit ")?.split_once('.')?;
-    seconds.parse::<u64>().ok()
+    let (seconds, rest) = line.strip_prefix("commit ")?.split_once('.')?;
+    let seconds = seconds.parse::<u64>().ok()?;
+    let millis = rest.get(..3)?.parse::<u64>().ok()?;
+    Some(seconds.saturating_mul(1000).saturating_add(millis))
 }
 
 impl<'p, K: Sink> Sink for WatchedSink<'p, K> {
@@ -135,8 +141,8 @@ impl<'p, K: Sink> Sink for WatchedSink<'p, K> {
     fn write(&mut self, bytes: &[u8]) -> Result<(), SinkFault> {
         self.progress.clear();
         let wrote = self.sink.write(bytes);
-        if let Some(seconds) = seconds_in(bytes) {
-            self.progress.committed(seconds);
+        if let Some(millis) = millis_in(bytes) {
+            self.progress.committed(millis);
         }
         self.progress.draw();
         wrote

@@ -1,12 +1,15 @@
 //! Plays, follows and lists the sessions that sudo's log server stored.
 #![tactic(auto)]
 
+mod gaps;
 mod logs;
 mod report;
 mod search;
 mod usage;
 
-use crate::report::{advise, report};
+use crate::gaps::StoreGaps;
+use crate::report::{advise, report, warn};
+use lsv_follow::Nobody;
 use lsv_real::{ArgumentFault, StdScreen, arguments};
 use lsv_real_disk::ReadOnlyDisk;
 use lsv_replay::{ReplayStatus, sudoreplay};
@@ -19,12 +22,22 @@ fn run(rt: HostRuntime) -> ReplayStatus {
         Ok(words) => words,
         Err(fault) => return unread(&rt, fault),
     };
+    warn(&rt, &words);
     let mut disk = ReadOnlyDisk::new(rt, "sudoreplay");
     let mut screen = StdScreen::new(rt);
-    let status = sudoreplay(alloc, &words, &mut disk, &mut screen);
+    let mut gaps = StoreGaps::new(rt, &words);
+    // Others write the store by themselves.
+    let status = sudoreplay(
+        alloc,
+        &words,
+        &mut disk,
+        &mut screen,
+        &mut Nobody,
+        &mut gaps,
+    );
     // Who reads a part of it, as `head` does, wants no more of it.
     if !screen.is_left() {
-        report(&rt, &words, status);
+        report(&rt, &words, status, gaps.noted());
         tell(&rt, status);
     }
     status

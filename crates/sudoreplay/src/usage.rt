@@ -12,6 +12,8 @@ enum Trouble<'w> {
     Unknown(&'w [u8]),
     /// Its value is missing.
     NoValue(u8),
+    /// The word after it begins with a hyphen, so it is no value.
+    Hyphen(u8, &'w [u8]),
     /// It stands twice.
     Twice(u8),
 }
@@ -84,6 +86,14 @@ fn say_option(rt: &HostRuntime, words: &[Bytes]) {
             let letter = letter as char;
             let _ = eprintln!(rt; "sudoreplay: -{letter} needs a value; see sudoreplay(8)");
         }
+        Some(Trouble::Hyphen(letter, word)) => {
+            let letter = letter as char;
+            if let Ok(word) = str::from_utf8(word) {
+                let _ = eprintln!(rt;
+                    "sudoreplay: -{letter} needs a value, and {word} is none: a value doesn't begin with a hyphen"
+                );
+            }
+        }
         Some(Trouble::Twice(letter)) => {
             let letter = letter as char;
             let _ = eprintln!(rt; "sudoreplay: -{letter} may stand once");
@@ -99,7 +109,7 @@ fn trouble_in(words: &[Bytes]) -> Option<Trouble<'_>> {
     for word in words {
         let word = word.as_slice();
         match (due, word) {
-            (Some(letter), [b'-', _, ..]) => return Some(Trouble::NoValue(letter)),
+            (Some(letter), [b'-', _, ..]) => return Some(Trouble::Hyphen(letter, word)),
             (Some(_), _) => due = None,
             (None, b"--") => return None,
             (None, [b'-', letters @ ..]) => match due_after(word, letters, &mut seen) {

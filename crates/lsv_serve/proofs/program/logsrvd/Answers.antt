@@ -1,5 +1,5 @@
 use Rattle.std.proofs.Common.{◌∙◌, refl, ap, subst, inl, List, ℕ, Option, Err}
-use Rattle.lsv_args.specs.Reading.{Load, Once, Relay, Serve, asked_in}
+use Rattle.lsv_args.specs.Reading.{Check, Load, Once, Relay, Serve, asked_in}
 use Rattle.lsv_args.specs.declared.command.Command.{Command}
 use Rattle.lsv_service.specs.Lanes.{AreFreshBays, bay_by}
 use Rattle.lsv_serve.specs.Program.{Asks, lanes_by}
@@ -101,3 +101,15 @@ returns-in-Relay-clause-other_words g c = λ none. absurd (none _ c.in-Ok.ensure
 
 pub returns-in-Relay-clause-unchanged : goal.returns-in-Relay-clause-unchanged
 returns-in-Relay-clause-unchanged g c = λ none. absurd (none _ c.in-Ok.ensures.ok)
+
+pub returns-in-Err-Usage-clause-checks : goal.returns-in-Err-Usage-clause-checks
+returns-in-Err-Usage-clause-checks g c = λ o asks. absurd (c.command_of.ensures.usage (c.in-Err-Usage.is ∙ ap Err c.in-Err-Usage.field-0-is) (Check o) asks)
+
+pub returns-in-Err-NoMem-clause-checks : goal.returns-in-Err-NoMem-clause-checks
+returns-in-Err-NoMem-clause-checks g c = λ o asks. (g.T.Texts.texts c.args.out.texts o.conf, λ told. refl, tt)
+
+pub returns-in-Check-clause-other_words : goal.returns-in-Check-clause-other_words
+returns-in-Check-clause-other_words g c = λ none. absurd (none _ c.in-Ok.ensures.ok)
+
+pub returns-in-Check-clause-unchanged : goal.returns-in-Check-clause-unchanged
+returns-in-Check-clause-unchanged g c = λ none. absurd (none _ c.in-Ok.ensures.ok)

@@ -1,11 +1,12 @@
-use Rattle.std.proofs.Common.{◌≡◌, Some, ap, sym, ◌∙◌, subst}
+use Rattle.std.proofs.Common.{◌≡◌, Some, ap, sym, ◌∙◌, subst, arith}
+use Rattle.lsv_queue.specs.Order.{after_body}
 use Rattle.std.proofs.lemmas.Option.{slice_get-get_or}
 use Rattle.lsv_queue.specs.declared.queue.InPass.{InPass}
 use Rattle.lsv_links.specs.Turns.{AreOf}
-use Rattle.lsv_threads.specs.Gates.{KeepsGates}
+use Rattle.lsv_threads.specs.Gates.{KeepsGates, count_of}
 use Rattle.lsv_queue.specs.Settled.{puts_at}
 use Rattle.lsv_queue.proofs.Places.{there}
-use Rattle.lsv_threads.proofs.Gating.{gates_set}
+use Rattle.lsv_threads.proofs.Gating.{gates_set, own_push}
 use Rattle.lsv_threads.proofs.Rowing.{pass_is, puts_off, puts_put, set_same}
 use Rattle.lsv_threads.proofs.gates.GatesInbox.put.Goals as goal
 
@@ -21,6 +22,21 @@ returns-in-Err-clause-keeps g c =
     let now = subst (λ m. KeepsGates passes c.refuse-in-Err.new.self.passes.items n m) (sym c.refuse-in-Err.ensures.number)
     (subst (λ v. KeepsGates passes v.items n n) (sym c.refuse-in-Err.ensures.passes) kept) in
     record { lanes_stay = now.size; counts = c.refuse-in-Err.ensures.counts; same = now }
+
+pub returns-in-Ok-clause-keeps : goal.returns-in-Ok-clause-keeps
+returns-in-Ok-clause-keeps g c =
+    let passes = c.args.self.now.passes.items in
+    let n = c.args.self.now.number in
+    let p = c.index_mut.result.now in
+    let put : c.put.new.pass.list ≡ after_body (Some c.args.job) p.list = c.in-Ok.ensures.put in
+    let own : c.args.job.conn.worker ≡ n = c.if-job-self.false in
+    let kept = gates_set passes c.args.lane p c.put.new.pass n (slice_get-get_or passes c.args.lane p c.requires.lane ∙ ap (λ (z : InPass _). Some z) (sym c.index_mut.ensures.value))
+    (record { queue = c.in-Ok.ensures.queue; number = ap (λ s. s.number) put; made = ap (λ s. s.made) put; ended = ap (λ s. s.ended) put })
+    (λ all. subst (λ s. AreOf n s.put) (sym put) (own_push n p.list.put c.args.job all own)) in
+    let now = subst (λ m. KeepsGates passes c.touch.new.self.passes.items n m) (sym c.touch.ensures.number)
+    (subst (λ v. KeepsGates passes v.items n n) (sym c.touch.ensures.passes) kept) in
+    let unchanged = c.touch.ensures.refused in
+    record { lanes_stay = now.size; counts = λ m. let e = ap (λ r. count_of r m) unchanged in omega (arith, e); same = now }
 
 pub returns-in-Ok-clause-ok : goal.returns-in-Ok-clause-ok
 returns-in-Ok-clause-ok g c =
