@@ -81,33 +81,41 @@ class Log:
         left = self.records[self.begins() or 0 :]
         return b"".join(frame(messages.record(record)) for record in left) + frame(messages.exited(RUN_TIME))
 
-    def relay(self, answers: Sequence[Answer], end: str) -> tuple[bytes, int, bool, str]:
-        """What is put, how many bytes are read, whether the end was read, and what becomes of the log."""
+    def relay(self, answers: Sequence[Answer], end: str) -> tuple[list[str], bytes, int, bool, str]:
+        """The answers' words, what is put, how much is read, whether the end was read, and what becomes of the log.
+
+        Each answer comes once all that may be said before it is put, in a read of its own.
+        """
         put, known, asked = self.opening(), self.begins() is not None, self.begins() is not None
         if known:
             put += self.rest()
-        read = sum(len(bytes_of(answer)) for answer in answers)
-        for kind, what in answers:
-            if kind == "log_id" and len(what) > LONGEST_ID:
-                return put, read, False, f"identifier of {len(what)} bytes"
-            if kind == "log_id" and not known:
-                self.id, self.point, known = what, None, True
+        words, read, whole, what = [], 0, False, ""
+        for answer in answers:
+            kind, said = answer
+            words.append(f"{len(put)}@{bytes_of(answer).hex()}")
+            if what:
+                continue
+            read += len(bytes_of(answer))
+            if kind == "log_id" and len(said) > LONGEST_ID:
+                what = f"identifier of {len(said)} bytes"
+            elif kind == "log_id" and not known:
+                self.id, self.point, known = said, None, True
                 put += self.rest()
-            if kind == "commit_point":
-                if what > (elapsed(self.records) if known else 0):
-                    return put, read, False, f"strange {what}"
-                if known:
-                    self.point, asked = what, False
-                    if what == elapsed(self.records):
-                        self.done = True
-                        return put, read, False, "relayed"
-            if kind == "error":
+            elif kind == "commit_point" and said > (elapsed(self.records) if known else 0):
+                what = f"strange {said}"
+            elif kind == "commit_point" and known:
+                self.point, asked, whole = said or self.point, False, said == elapsed(self.records)
+            elif kind == "error":
                 if asked:
                     self.id = self.point = None
-                return put, read, False, f"said {len(what)} bytes"
-            if kind == "raw":
-                return put, read, False, "malformed" if what != b"\0\x20\0\1" else "message of 2097153 bytes"
-        return put, read, end == "end", "ended" if end == "end" else "not yet"
+                what = f"said {len(said)} bytes"
+            elif kind == "raw":
+                what = "malformed" if said != b"\0\x20\0\1" else "message of 2097153 bytes"
+        if what:
+            return words, put, read, False, what
+        self.done = whole
+        how = "relayed" if whole else "ended" if end == "end" else "not yet"
+        return words, put, read, end == "end", how
 
 
 class Store:
@@ -134,27 +142,29 @@ class Store:
 
     def relay(self, *connections: tuple[str, Sequence[Answer]] | None) -> None:
         """`relay` runs. Each connection has how its input ends and what is answered; the last may be None, refused."""
-        reports, shown, left = [], [], 0
+        given, reports, shown, left, reached = [], [], [], 0, True
         rest = list(connections)
-        for connection in connections:
-            if connection is not None:
-                answer = b"".join(map(bytes_of, connection[1]))
-                ROWS.case(f"answer {connection[0]} {len(answer)} {answer.hex()}".rstrip())
         for log in self.logs:
             what = "passed"
             if log.done:
                 what = "marked"
+            elif log.complete and not reached:
+                what = "untried"
             elif log.complete:
                 connection = rest.pop(0)
                 if connection is None:
                     shown.append(f"connection {HOST} refused")
-                    what = "connection failed"
+                    what, reached = "unreached", False
                 else:
-                    put, read, ended, what = log.relay(connection[1], connection[0])
+                    words, put, read, ended, what = log.relay(connection[1], connection[0])
+                    count = sum(len(bytes_of(answer)) for answer in connection[1])
+                    given.append(f"answer {connection[0]} {count} {'+'.join(words)}".rstrip())
                     shown.append(f"connection {HOST} read {read}{', ended' if ended else ''}, put {put.hex()}")
-                left += not log.done
+            left += log.complete and not log.done
             reports.append(f"log {log.number} {what}")
         status = f"status 8 {left} logs pending" if left else "status 0 "
+        for line in given:
+            ROWS.case(line)
         ROWS.case("run relay -f conf", *shown, *reports, status)
 
 
@@ -193,6 +203,18 @@ def main() -> None:
         ("end", []), ("silent", [HELLO, ("log_id", "0000A9"), point(0)]))
     store.relay(("end", [HELLO, IDENTIFIER, point(SECOND // 2), point(3 * SECOND + SECOND // 2)]), None)
     store.relay(("silent", [HELLO, ("log_id", "0000AA"), point(SECOND // 2), point(SECOND + SECOND // 2)]))
+    store.relay()
+
+    store = Store("after a connection that can't be made no further one is tried")
+    for records in (RECORDS, RECORDS[:1], RECORDS[:2]):
+        store.session(records)
+    store.session(complete=False)
+    store.relay(("end", [HELLO, IDENTIFIER, point(3 * SECOND + SECOND // 2)]), None)
+    store.relay(None)
+    store.relay(
+        ("end", [HELLO, ("log_id", "0000A8"), point(SECOND // 2)]),
+        ("silent", [HELLO, ("log_id", "0000A9"), point(SECOND + SECOND // 2)]),
+    )
     store.relay()
 
     store = Store("an error after a restart drops what is kept, and another error does not")

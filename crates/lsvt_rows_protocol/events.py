@@ -7,6 +7,7 @@ from __future__ import annotations
 
 import datetime
 import json
+import re
 from collections.abc import Iterator
 
 from oracle.wire import field as bytes_field, number as number_field
@@ -153,6 +154,9 @@ DATES = [
     9223372036,
 ]
 ALL = bytes(range(256))
+# Characters whose first byte in UTF-8 is 0xC2, DEL and what stands beside it, and 0xC2 where no character begins.
+BROKEN = b"\xc2\xc2\x80\xc2\x7f\xc2a\xc3\x82\xc2\x9f\xc3\x85\xc2\xa0\xe2\x80\x99\xc2"
+CONTROLS = "".join(map(chr, range(0x7e, 0x100))).encode() + BROKEN
 
 
 def time_field(number: int, seconds: int, nanos: int = 0) -> bytes:
@@ -178,8 +182,11 @@ def escaped(b: bytes) -> bytes:
 
 
 def quoted(b: bytes) -> bytes:
-    """In JSON bytes that are no UTF-8 are written as the replacement character."""
-    return json.dumps(b.decode("utf-8", "replace"), ensure_ascii=False).encode()
+    """In JSON bytes that are no UTF-8 are written as the replacement character, and DEL and the C1 controls by their
+    numbers.
+    """
+    text = json.dumps(b.decode("utf-8", "replace"), ensure_ascii=False)
+    return re.sub("[\x7f-\x9f]", lambda found: f"\\u{ord(found[0]):04x}", text).encode()
 
 
 def date(seconds: int) -> bytes:
@@ -234,3 +241,6 @@ def cases() -> Iterator[tuple[str, list[Row]]]:
     wanted = form % (quoted(ALL), quoted(ALL), quoted(ALL), at, at)
     yield "each byte in each text of a line", sudo + [("json-line " + words((0, 1, 0), rejected(ALL, (ALL, ALL)),
         START), [wanted])]
+    wanted = form % (quoted(CONTROLS), quoted(CONTROLS), quoted(CONTROLS), at, at)
+    yield "DEL and the C1 controls in JSON", [
+        ("json-line " + words((0, 1, 0), rejected(CONTROLS, (CONTROLS, CONTROLS)), START), [wanted])]

@@ -46,16 +46,24 @@ def records(after: int) -> list[bytes]:
 
 WHOLE = sent([*OPENING, *records(0), EXIT])
 REST = sent([hello("lsv 1"), restart(ID, POINT), *records(2), EXIT])
-REST_UNENDED = sent([hello("lsv 1"), restart(ID, POINT), *records(2)])
 EXIT_ALONE = sent([hello("lsv 1"), restart(ID, ALL), EXIT])
 HALF = sent(OPENING)
 NONE = "no connection"
 
 
-def run(answer: Sequence[bytes], cut: str = "end", fails: str = "-") -> str:
-    """A run's word: the upstream sends these, then its side ends or is silent, and these calls of the link fail."""
-    digits = sent(answer)
-    return f"{cut}:{len(digits) // 2}/{fails}/{digits}"
+Held = tuple[str, Sequence[bytes]]
+
+
+def run(*answers: Sequence[bytes] | Held, cut: str = "end", fails: str = "-", host: str = "") -> str:
+    """A run's word: the upstream sends these at once, or once it has these digits; then its side ends or is silent, and
+    these calls of the link fail."""
+    words, count = [], 0
+    for it in answers:
+        after, messages = it if isinstance(it, tuple) else ("", it)
+        digits = sent(messages)
+        count += len(digits) // 2
+        words.append(f"{len(after) // 2}@{digits}" if after else digits)
+    return f"{host}{cut}:{count}/{fails}/{'+'.join(words)}"
 
 
 def relay(runs: Sequence[str], *ends: tuple[str, str, str]) -> None:
@@ -65,9 +73,10 @@ def relay(runs: Sequence[str], *ends: tuple[str, str, str]) -> None:
 
 
 HI, NAME = server_hello("s"), log_id(ID)
-FIRST = run([HI, NAME, commit_point(POINT)])
-SECOND_RUN = run([HI, commit_point(ALL)])
+FIRST = run([HI, NAME], (WHOLE, [commit_point(POINT)]))
+SECOND_RUN = run([HI], (REST, [commit_point(ALL)]))
 NOTHING_MORE = run([HI])
+OTHER = "other.test:1!"
 
 
 def conversations() -> None:
@@ -75,27 +84,40 @@ def conversations() -> None:
     title("a log is sent whole, and from its commit point on; then nobody is connected to")
     relay([FIRST, SECOND_RUN, NOTHING_MORE],
           ("ended", WHOLE, KEPT_TO), ("done", REST, "relayed"), ("done", NONE, "relayed"))
+    title("the other server may end the connection itself, or be silent")
+    relay([run([HI, NAME], (WHOLE, [commit_point(ALL)]), cut="silent"), NOTHING_MORE],
+          ("done", WHOLE, "relayed"), ("done", NONE, "relayed"))
+    title("a connection that fails after the last commit point marks nothing: the next run asks for it again")
+    # the calls are the connect, then writes and reads; the seventh reads what comes after the commit point
+    relay([run([HI, NAME], (WHOLE, [commit_point(ALL)]), fails="7"), run([HI], (EXIT_ALONE, [commit_point(ALL)]))],
+          ("failed", WHOLE, KEPT_TO_ALL), ("done", EXIT_ALONE, "relayed"))
     title("a commit point above what was sent is refused, and isn't kept")
-    relay([run([HI, NAME, commit_point(5 * SECOND)])], (f"strange {5 * SECOND}", WHOLE, KEPT))
+    relay([run([HI, NAME], (WHOLE, [commit_point(5 * SECOND)]))], (f"strange {5 * SECOND}", WHOLE, KEPT))
+    title("a commit point of 0 isn't kept")
+    relay([run([HI, NAME], (WHOLE, [commit_point(0)]))], ("ended", WHOLE, KEPT))
     title("nothing follows the opening before an identifier comes")
-    relay([run([HI], "silent")], ("not yet", HALF, "nothing"))
+    relay([run([HI], cut="silent")], ("not yet", HALF, "nothing"))
     title("a log of which the upstream has all before the end isn't marked without the last commit point")
-    relay([run([HI, NAME], "silent")], ("not yet", WHOLE, KEPT))
+    relay([run([HI, NAME], cut="silent")], ("not yet", WHOLE, KEPT))
     title("at a commit point at which no record ends the log isn't gone on with")
-    relay([run([HI, NAME, commit_point(SECOND)]), run([HI], "silent")],
+    relay([run([HI, NAME], (WHOLE, [commit_point(SECOND)])), run([HI], cut="silent")],
           ("ended", WHOLE, f"{KEPT} to {SECOND}"), ("not yet", HALF, f"{KEPT} to {SECOND}"))
     title("an error after a restart drops what is kept, and the next run sends the log anew")
-    relay([FIRST, run([HI, error("gone")]), SECOND_RUN],
+    relay([FIRST, run([HI, error("gone")]), run([HI, commit_point(ALL)])],
           ("ended", WHOLE, KEPT_TO), (f"said {b'gone'.hex()}", REST, "nothing"),
           (f"strange {ALL}", HALF, "nothing"))
     title("an error after a commit point drops nothing, nor one on a connection that began the log")
     relay([FIRST, run([HI, commit_point(POINT), error("busy")])],
           ("ended", WHOLE, KEPT_TO), (f"said {b'busy'.hex()}", REST, KEPT_TO))
-    relay([run([HI, NAME, error("full")])], (f"said {b'full'.hex()}", WHOLE, KEPT))
-    title("if the write of the exit fails, the last commit point is kept as one, and the next run sends the exit again")
-    # the calls of the second run are the connect, and the writes of the opening, of the records and of the exit
-    relay([FIRST, run([HI, commit_point(ALL)], fails="4"), SECOND_RUN],
-          ("ended", WHOLE, KEPT_TO), ("failed", REST_UNENDED, KEPT_TO_ALL), ("done", EXIT_ALONE, "relayed"))
+    relay([run([HI, NAME, error("full")])], (f"said {b'full'.hex()}", HALF, KEPT))
+    title("what is kept of one host is nothing of another, and is lost once that one's is kept")
+    relay([FIRST, run([HI], cut="silent", host=OTHER), run([HI], cut="silent"),
+           run([HI, NAME], cut="silent", host=OTHER), run([HI], cut="silent")],
+          ("ended", WHOLE, KEPT_TO), ("not yet", HALF, "nothing"), ("not yet", REST, KEPT_TO),
+          ("not yet", WHOLE, KEPT), ("not yet", HALF, "nothing"))
+    title("a log that is relayed is relayed for each host")
+    relay([FIRST, SECOND_RUN, run([HI], host=OTHER)],
+          ("ended", WHOLE, KEPT_TO), ("done", REST, "relayed"), ("done", NONE, "relayed"))
     title("an identifier of more than 4,096 bytes is refused")
     relay([run([HI, log_id("7" * 4097)])], ("long id 4097", HALF, "nothing"))
 
@@ -110,12 +132,12 @@ def main() -> None:
     conversations()
     title("each device call, and each call of the link")
     # A call that fails, or is the last, leaves what was kept before or after. Nothing is marked before the last commit
-    # point. After a fault that comes before the identifier, or before its point, the second run sends the log anew, and
-    # hears a commit point above what was sent.
-    early, late = ["nothing", KEPT, KEPT_TO], ["nothing", KEPT, KEPT_TO, "relayed"]
-    # All of an answer comes in one read, also after a failed write. What comes after it is kept, but marks nothing. If
-    # the opening wasn't put, the identifier is left without its point, which is above what was sent.
-    broken = (["nothing", KEPT, KEPT_TO], ["nothing", KEPT, KEPT_TO, KEPT_TO_ALL, "relayed"])
+    # point is kept. After a fault that comes before the identifier, or before its point, the second run sends the log
+    # anew, and hears a commit point above what was sent.
+    early = ["nothing", KEPT, KEPT_TO]
+    late = [*early, KEPT_TO_ALL, "relayed"]
+    # Both runs have their fault at the same call. So where the first run has its point, the second has the last one.
+    broken = (early, ["nothing", KEPT, KEPT_TO_ALL, "relayed"])
     case(f"faults {FIRST} {SECOND_RUN}", *(line for what, found in (
         ("the runs leave", ([KEPT_TO], ["relayed"])), ("a crash leaves", (early, late)),
         ("a device fault leaves", (early, late)), ("a fault of the link leaves", broken)) for line in (

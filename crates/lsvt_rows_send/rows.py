@@ -85,9 +85,22 @@ def resumed(log_id: str, point: int, records: Sequence[Record], exited: bool = T
 GREETING = messages.server_hello("lsv 1")
 
 
-def server(cut: str, *sent: bytes, after: int = 10**9) -> None:
-    """What the server sends, and whether its input then ends or it falls silent."""
-    case(f"answer {cut} {after} {frames(GREETING, *sent).hex()}")
+Held = tuple[bytes, bytes]
+
+
+def server(cut: str, *sent: bytes | Held, after: int = 10**9) -> None:
+    """What the server sends, and whether its input then ends or it falls silent.
+
+    What is sent at once comes in one read. A pair is a message that comes in a read of its own, once this was put.
+    """
+    at_once = [it for it in sent if isinstance(it, bytes)]
+    held = [f"{len(put)}:{frame(message).hex()}" for message, put in (it for it in sent if not isinstance(it, bytes))]
+    case(" ".join([f"answer {cut} {after}", f"0:{frames(GREETING, *at_once).hex()}", *held]))
+
+
+def at(put: bytes, *sent: bytes) -> list[Held]:
+    """Messages that come once this was put."""
+    return [(message, put) for message in sent]
 
 
 ID = messages.log_id("0000A7")
@@ -124,36 +137,77 @@ def none(status: str) -> list[str]:
 
 
 ALL = elapsed(RECORDS)
+WHOLE, PARTLY, OPENING = anew(RECORDS), anew(RECORDS[:3], False), anew([], False)
 
 title("a whole log")
 log(RECORDS, EXIT)
-server("silent", ID, commit(ALL))
-case("run 000001", *ran(anew(RECORDS), "0 Sent", id_line(), commit_line(ALL)))
-case("run -d /srv/io -h web2 -p 343 000001",
-    *ran(anew(RECORDS), "0 Sent", id_line(), commit_line(ALL), host="web2:343"))
-server("silent", ID, commit(1_500_000_000), commit(ALL), commit(ALL))
-case("run 000001", *ran(anew(RECORDS), "0 Sent", id_line(), commit_line(1_500_000_000), commit_line(ALL)))
+for cut in ("silent", "end"):
+    server(cut, ID, *at(WHOLE, commit(ALL)))
+    case("run 000001", *ran(WHOLE, "0 Sent", id_line(), commit_line(ALL)))
+case("run -d /srv/io -h web2 -p 343 000001", *ran(WHOLE, "0 Sent", id_line(), commit_line(ALL), host="web2:343"))
+server("end", ID, *at(WHOLE, commit(1_500_000_000), commit(ALL), commit(ALL)))
+case("run 000001",
+    *ran(WHOLE, "0 Sent", id_line(), commit_line(1_500_000_000), commit_line(ALL), commit_line(ALL)))
+
+title("a commit point that is read before the exit was put, of a log of 16 records")
+SIXTEEN: list[Record] = [(100_000_000, "ttyout", b"%d" % n) for n in range(16)]
+log(SIXTEEN, EXIT)
+BEFORE, POINT = anew(SIXTEEN, False), elapsed(SIXTEEN)
+server("end", ID, *at(BEFORE, commit(POINT)))
+case("run 000001", *ran(anew(SIXTEEN), "8 Ended", id_line(), commit_line(POINT)))
+server("silent", ID, *at(BEFORE, commit(POINT)))
+case("run 000001", *ran(anew(SIXTEEN), "8 NotYet", id_line(), commit_line(POINT)))
+server("end", ID, *at(BEFORE, commit(POINT)), *at(anew(SIXTEEN), commit(POINT)))
+case("run 000001", *ran(anew(SIXTEEN), "0 Sent", id_line(), commit_line(POINT), commit_line(POINT)))
+log(SIXTEEN, None)
+server("silent", ID, *at(BEFORE, commit(POINT)))
+case("run 000001", *ran(BEFORE, "0 Sent", id_line(), commit_line(POINT)))
+
+title("after the last commit point")
+log(RECORDS, EXIT)
+# what comes then is no progress: the 30 s of silence have begun before it
+for later, shown in (
+    (GREETING, []),
+    (ID, [id_line()]),
+    (commit(500_000_000), [commit_line(500_000_000)]),
+    (commit(ALL), [commit_line(ALL)]),
+):
+    for cut, status in (("end", "0 Sent"), ("silent", "8 NotYet")):
+        server(cut, ID, *at(WHOLE, commit(ALL), later))
+        case("run 000001", *ran(WHOLE, status, id_line(), commit_line(ALL), *shown))
+for last, status in (
+    (commit(ALL + 1), f"8 Strange {ALL + 1}"),
+    (messages.error("no room"), f"8 Said {b'no room'.hex()}"),
+    (bytes.fromhex("22ff"), "8 Malformed"),
+):
+    server("end", ID, *at(WHOLE, commit(ALL), last))
+    case("run 000001", *ran(WHOLE, status, id_line(), commit_line(ALL)))
+server("end", ID, *at(WHOLE, commit(ALL), messages.error("no room")), after=len(frames(GREETING, ID, commit(ALL))) + 3)
+case("run 000001", *ran(WHOLE, "8 Ended", id_line(), commit_line(ALL)))
 
 title("a log that goes on")
-server("silent", commit(ALL))
-case("run -i 0000A7 -r 1.5 000001", *ran(resumed("0000A7", 1_500_000_000, RECORDS[2:]), "0 Sent", commit_line(ALL)))
-case("run -r 0.5 000001 -i /../00/00/01",
-    *ran(resumed("/../00/00/01", 500_000_000, RECORDS[1:]), "0 Sent", commit_line(ALL)))
+REST = resumed("0000A7", 1_500_000_000, RECORDS[2:])
+server("silent", *at(REST, commit(ALL)))
+case("run -i 0000A7 -r 1.5 000001", *ran(REST, "0 Sent", commit_line(ALL)))
+OTHER = resumed("/../00/00/01", 500_000_000, RECORDS[1:])
+server("silent", *at(OTHER, commit(ALL)))
+case("run -r 0.5 000001 -i /../00/00/01", *ran(OTHER, "0 Sent", commit_line(ALL)))
 case("run -i 0000A7 -r 1.2 000001", *none("4 Log NoPoint 1200000000"))
 case("run -i 0000A7 -r 0 000001", *none("4 Log NoPoint 0"))
 
 title("up to an elapsed time")
-server("silent", ID, commit(1_500_000_000))
-case("run -s 1.5 000001", *ran(anew(RECORDS[:3], False), "0 Sent", id_line(), commit_line(1_500_000_000)))
-case("run -s 3.499999999 000001", *ran(anew(RECORDS[:3], False), "0 Sent", id_line(), commit_line(1_500_000_000)))
-case("run -i 0000A7 -r 0.5 -s 1.5 000001",
-    *ran(resumed("0000A7", 500_000_000, RECORDS[1:3], False), "0 Sent", id_line(), commit_line(1_500_000_000)))
+server("silent", ID, *at(PARTLY, commit(1_500_000_000)))
+case("run -s 1.5 000001", *ran(PARTLY, "0 Sent", id_line(), commit_line(1_500_000_000)))
+case("run -s 3.499999999 000001", *ran(PARTLY, "0 Sent", id_line(), commit_line(1_500_000_000)))
+MIDDLE = resumed("0000A7", 500_000_000, RECORDS[1:3], False)
+server("silent", *at(MIDDLE, commit(1_500_000_000)))
+case("run -i 0000A7 -r 0.5 -s 1.5 000001", *ran(MIDDLE, "0 Sent", commit_line(1_500_000_000)))
 server("silent", ID)
-case("run -s 0.4 000001", *ran(anew([], False), "0 Sent", id_line()))
-server("silent", ID, commit(500_000_000))
-case("run -s 1.5 000001", *ran(anew(RECORDS[:3], False), "8 NotYet", id_line(), commit_line(500_000_000)))
+case("run -s 0.4 000001", *ran(OPENING, "0 Sent", id_line()))
+server("silent", ID, *at(PARTLY, commit(500_000_000)))
+case("run -s 1.5 000001", *ran(PARTLY, "8 NotYet", id_line(), commit_line(500_000_000)))
 case("run -i 0000A7 -r 1.5 -s 1 000001", *ran(resumed("0000A7", 1_500_000_000, [], False), "0 Sent"))
-server("silent", ID, commit(ALL))
+server("silent", ID, *at(anew(RECORDS, False), commit(ALL)))
 case("run -s 4 000001", *ran(anew(RECORDS, False), "0 Sent", id_line(), commit_line(ALL)))
 
 title("without records")
@@ -161,69 +215,90 @@ case("run -A 000001", *ran(frames(HELLO, messages.accept(SUBMIT, INFO, False)), 
 case("run -R no 000001", *ran(frames(HELLO, messages.refusal("reject", SUBMIT, "no", INFO)), "0 Sent"))
 
 title("an answer that isn't the last commit point")
+NO_TIME = messages.server("commit_point", scalar(1, 1) + scalar(2, 10**9))
 for sent, status, *shown in (
-    ([ID], "8 NotYet", id_line()),
-    ([ID, commit(1_500_000_000)], "8 NotYet", id_line(), commit_line(1_500_000_000)),
-    ([ID, commit(5 * SECOND)], "8 Strange 5000000000", id_line(), commit_line(5 * SECOND)),
-    ([ID, messages.server("commit_point", scalar(1, 1) + scalar(2, 10**9))], f"8 Strange {2**63 - 1}", id_line()),
+    ([], "8 NotYet"),
+    ([commit(1_500_000_000)], "8 NotYet", commit_line(1_500_000_000)),
+    ([commit(5 * SECOND)], "8 Strange 5000000000"),
+    ([NO_TIME], f"8 Strange {2**63 - 1}"),
+    ([messages.error("no room")], f"8 Said {b'no room'.hex()}"),
+    ([messages.server("abort", "stopped")], f"8 Said {b'stopped'.hex()}"),
+    ([bytes.fromhex("22ff")], "8 Malformed"),
+):
+    server("silent", ID, *at(WHOLE, *sent))
+    case("run 000001", *ran(WHOLE, status, id_line(), *shown))
+for sent, status, *shown in (
+    ([messages.log_id("x" * 4097)], "8 LongId 4097"),
     ([ID, messages.error("no room")], f"8 Said {b'no room'.hex()}", id_line()),
-    ([ID, messages.server("abort", "stopped")], f"8 Said {b'stopped'.hex()}", id_line()),
-    ([ID, bytes.fromhex("22ff")], "8 Malformed", id_line()),
-    ([messages.log_id("x" * 4097)], "8 LongId 4097", id_line("x" * 4097)),
+    ([ID, commit(ALL)], f"8 Strange {ALL}", id_line()),
+    ([commit(1)], "8 Strange 1"),
+    ([commit(0)], "8 NotYet", commit_line(0)),
 ):
     server("silent", *sent)
-    put = frames(HELLO, ACCEPT) if status.startswith("8 LongId") else anew(RECORDS)
-    case("run 000001", *ran(put, status, *shown))
-server("silent", commit(1))
-case("run 000001", *ran(frames(HELLO, ACCEPT), "8 Strange 1", commit_line(1)))
-server("silent", commit(0))
-case("run 000001", *ran(frames(HELLO, ACCEPT), "8 NotYet", commit_line(0)))
+    case("run 000001", *ran(OPENING, status, *shown))
 server("end", ID)
-case("run 000001", *ran(anew(RECORDS), "8 Ended", id_line()))
+case("run 000001", *ran(WHOLE, "8 Ended", id_line()))
 server("end", after=0)
-case("run 000001", *ran(frames(HELLO, ACCEPT), "8 Ended"))
+case("run 000001", *ran(OPENING, "8 Ended"))
 server("silent", after=0)
-case("run 000001", *ran(frames(HELLO, ACCEPT), "8 NotYet"))
-case(f"answer silent 1000000 {(frames(GREETING) + bytes.fromhex('00200001')).hex()}")
-case("run 000001", *ran(frames(HELLO, ACCEPT), "8 TooLarge 2097153"))
-server("silent", messages.server("log_id", b"a\xffb"), commit(ALL))
-case("run 000001", *ran(anew(RECORDS), "0 Sent", b"id a\xef\xbf\xbdb", commit_line(ALL)))
+case("run 000001", *ran(OPENING, "8 NotYet"))
+case(f"answer silent 1000000 0:{(frames(GREETING) + bytes.fromhex('00200001')).hex()}")
+case("run 000001", *ran(OPENING, "8 TooLarge 2097153"))
+
+title("an identifier that a terminal could obey")
+for raw, shown_so in (
+    (b"a\xffb", "a\ufffdb"),
+    (b"\x1b[2J\r\n000001\ncommit 3.500000000", "\\x1b[2J\\x0d\\x0a000001\\x0acommit 3.500000000"),
+    (b"\x00\x7f\xc2\x80\xc2\x9f\xc2\xa0\xc2", "\\x00\\x7f\\x80\\x9f\u00a0\ufffd"),
+    ("b\u00e4r\\x1b".encode(), "b\u00e4r\\x1b"),
+):
+    server("silent", messages.server("log_id", raw), *at(WHOLE, commit(ALL)))
+    case("run 000001", *ran(WHOLE, "0 Sent", f"id {shown_so}", commit_line(ALL)))
 
 title("a write that fails")
-server("silent", ID, commit(ALL))
-case("fail link 4 000001", *ran(frames(HELLO, ACCEPT), "8 Failed", id_line(), commit_line(ALL)))
+server("silent", ID, *at(b"", commit(ALL)))
+case("fail link 4 000001", *ran(OPENING, "8 Failed", id_line(), commit_line(ALL)))
 case("fail link 5 000001", *ran(anew(RECORDS, False), "8 Failed", id_line(), commit_line(ALL)))
-server("silent", ID, messages.error("no room"))
-case("fail link 4 000001", *ran(frames(HELLO, ACCEPT), f"8 Said {b'no room'.hex()}", id_line()))
-server("silent", ID, commit(ALL + 1))
-case("fail link 5 000001",
-    *ran(anew(RECORDS, False), f"8 Strange {ALL + 1}", id_line(), commit_line(ALL + 1)))
+server("silent", ID, *at(b"", messages.error("no room")))
+case("fail link 4 000001", *ran(OPENING, f"8 Said {b'no room'.hex()}", id_line()))
+server("silent", ID, *at(b"", commit(ALL + 1)))
+case("fail link 5 000001", *ran(anew(RECORDS, False), "8 Failed", id_line()))
+
+title("a connection that can't be made")
+case("fail link 1 000001", *ran(b"", "8 Unreached"))
+
+title("a read that fails after the last commit point")
+server("silent", ID, *at(WHOLE, commit(ALL)))
+case("fail link 7 000001", *ran(WHOLE, "8 Failed", id_line(), commit_line(ALL)))
 
 title("other logs")
-server("silent", ID, commit(ALL))
 case("run 000002", *none("4 Log Absent"))
 case("run 00000a", *none("4 Log Absent"))
 case("run 0001", *none("4 Log Absent"))
 log(RECORDS, EXIT, old=True)
-case("run 000001", *ran(anew(RECORDS), "0 Sent", id_line(), commit_line(ALL)))
+case("run 000001", *ran(WHOLE, "0 Sent", id_line(), commit_line(ALL)))
 log(RECORDS, None)
+server("silent", ID, *at(anew(RECORDS, False), commit(ALL)))
 case("run 000001", *ran(anew(RECORDS, False), "0 Sent", id_line(), commit_line(ALL)))
 log([], None)
 server("silent", ID)
-case("run 000001", *ran(anew([], False), "0 Sent", id_line()))
+case("run 000001", *ran(OPENING, "0 Sent", id_line()))
 log([], EXIT)
-server("silent", ID, commit(0))
+server("silent", ID, *at(anew([]), commit(0)))
 case("run 000001", *ran(anew([]), "0 Sent", id_line(), commit_line(0)))
+server("silent", ID, commit(0))
+case("run 000001", *ran(anew([]), "8 NotYet", id_line(), commit_line(0)))
 log(RECORDS, EXIT, timing=None)
 case("run 000001", *none("4 Log Damaged(Timing)"))
 case("run -A 000001", *none("4 Log Damaged(Timing)"))
 log(RECORDS, EXIT, exit_json=b"?" * len(EXIT))
-server("silent", ID, commit(ALL))
+server("silent", ID, *at(anew(RECORDS, False), commit(ALL)))
 case("run 000001", *ran(anew(RECORDS, False), "4 Log Damaged(Exit)", id_line()))
 case("run -s 9 000001", *ran(anew(RECORDS, False), "0 Sent", id_line(), commit_line(ALL)))
 log(RECORDS, EXIT, timing=b"4 0.500000000 2\n4 1.000000000 5\nx 0.000000000 5\n5 2.000000000 30 100\n")
 case("run 000001", *ran(anew(RECORDS[:2], False), "4 Log Damaged(Timing)", id_line()))
-case("run -s 1 000001", *ran(anew(RECORDS[:1], False), "8 Strange 3500000000", id_line(), commit_line(ALL)))
+server("silent", ID, *at(anew(RECORDS[:1], False), commit(ALL)))
+case("run -s 1 000001", *ran(anew(RECORDS[:1], False), f"8 Strange {ALL}", id_line()))
 
 title("words that are no command")
 log(RECORDS, EXIT)
@@ -234,10 +309,12 @@ for words in ("", "000001 000001", "--help", "-h", "-V", "~", "-A -s 1 000001", 
     case(f"run {words}".rstrip(), *none("2 Usage"))
 
 title("each call fails in turn")
-server("silent", ID, commit(1_500_000_000), commit(ALL))
-for words in ("000001", "-i 0000A7 -r 1.5 000001", "-s 1.5 000001", "-A 000001"):
+for words, put in (("000001", WHOLE), ("-i 0000A7 -r 1.5 000001", REST), ("-s 1.5 000001", PARTLY),
+    ("-A 000001", WHOLE)):
+    server("silent", ID, *at(put, commit(1_500_000_000), commit(1_500_000_000 if put is PARTLY else ALL)))
     case(f"each disk {words}", "disk 4 then 0, true")
     case(f"each link {words}", "link 8 then 0, true")
+server("silent", ID, *at(WHOLE, commit(1_500_000_000), commit(ALL)))
 case("each sink 000001", "sink 6 then 0, true")
 
 ROWS.write(sys.argv[1])

@@ -559,6 +559,19 @@ def several_lanes() -> None:
         port.stop()
     server.top("serve --lanes 4 -f conf")
 
+    server = Server("eight lanes and two ports", lanes=8)
+    for place in range(2):
+        port = server.port()
+        for number in range(1, 15):
+            link = port.open(number)
+            if number % 2 == place:
+                link.last()
+                continue
+            link.give(HELLO, SHORT, FIRST)
+            link.give(SECOND_ONE, EXIT)
+        port.stop()
+    server.top("serve --lanes 8 --workers 2 -f conf")
+
     server = Server("more jobs than an inbox holds, for two lanes at once", lanes=2)
     port = server.port()
     links = [port.open(n) for n in range(1, 5)]
@@ -581,7 +594,12 @@ def settings_and_words() -> None:
             ("[server]", "listen_address = *:30343", "[relay]", "store_first = maybe"), "serve -f conf",
             "3 settings line 4"),
         ("a word that is none", PLACES, "serve -x", "2 usage"),
-        ("more lanes than there may be", PLACES, "serve --lanes 5", "2 usage"),
+        ("more lanes than there may be", PLACES, "serve --lanes 9", "2 usage"),
+        ("more workers than there may be", PLACES, "serve --workers 65", "2 usage"),
+        ("a check of settings of which a line is refused", (*PLACES, "[relay]", "store_first = maybe"), "check -f conf",
+            f"3 settings line {len(PLACES) + 2}"),
+        ("a check of settings", PLACES, "check -f conf", "0 "),
+        ("a check without a settings file", PLACES, "check", "0 "),
         ("no number of connections", PLACES, "serve --stop-after 0", "2 usage"),
     )
     for title, conf, words, status in refused:

@@ -205,8 +205,11 @@ def shown_settings(text: bytes) -> str:
 
 # ---- the command words
 
-RANGES = {"--lanes": (1, 4), "--stop-after": (1, 2**32 - 1), "count": (1, 10_000)}
-OPTIONS = {"once": {"-f"}, "serve": {"-f", "--lanes", "--stop-after"}, "load": {"-f"}, "relay": {"-f"}}
+RANGES = {"--lanes": (1, 8), "--workers": (1, 64), "--stop-after": (1, 2**32 - 1), "count": (1, 10_000)}
+OPTIONS = {
+    "once": {"-f"}, "serve": {"-f", "--lanes", "--workers", "--stop-after"}, "load": {"-f"}, "relay": {"-f"},
+    "check": {"-f"},
+}
 DEFAULT_CONF = "/etc/sudo_logsrvd.conf"
 
 
@@ -238,6 +241,7 @@ def words_of(words: Sequence[str]) -> str:
         raise Refused
     numbers = {name: number(given[name], *RANGES[name]) for name in given if name in RANGES}
     asked = f"{command} {quoted(given.get('-f', DEFAULT_CONF))} lanes {numbers.get('--lanes', 1)}"
+    asked += f" workers {numbers.get('--workers', 4)}"
     if "--stop-after" in numbers:
         asked += f" stop after {numbers['--stop-after']}"
     return f"{number(counts[0], *RANGES['count'])} {asked}" if counts else asked
@@ -538,17 +542,21 @@ def words_rows() -> None:
     for options in [[], ["-f c"]]:
         words(" ".join(["once"] + options))
         words(" ".join(["relay"] + options))
-    choices = ["-f /etc/c", "--lanes 4", "--stop-after 7"]
-    for count in range(4):
+        words(" ".join(["check"] + options))
+    choices = ["-f /etc/c", "--lanes 8", "--workers 64", "--stop-after 7"]
+    for count in range(5):
         for order in itertools.permutations(choices, count):
             words(" ".join(("serve",) + order))
     for order in [["300"], ["-f c", "300"], ["300", "-f c"]]:
         words(" ".join(["load"] + order))
-    words("once", 'once "/etc/sudo_logsrvd.conf" lanes 1')
-    words("serve --stop-after 7 -f c --lanes 3", 'serve "c" lanes 3 stop after 7')
-    words("load 3 -f c", '3 load "c" lanes 1')
-    words("relay", 'relay "/etc/sudo_logsrvd.conf" lanes 1')
-    words("relay -f c", 'relay "c" lanes 1')
+    words("once", 'once "/etc/sudo_logsrvd.conf" lanes 1 workers 4')
+    words("serve --stop-after 7 -f c --lanes 3", 'serve "c" lanes 3 workers 4 stop after 7')
+    words("serve --workers 2 -f c --lanes 8", 'serve "c" lanes 8 workers 2')
+    words("load 3 -f c", '3 load "c" lanes 1 workers 4')
+    words("relay", 'relay "/etc/sudo_logsrvd.conf" lanes 1 workers 4')
+    words("relay -f c", 'relay "c" lanes 1 workers 4')
+    words("check", 'check "/etc/sudo_logsrvd.conf" lanes 1 workers 4')
+    words("check -f c", 'check "c" lanes 1 workers 4')
     words("once -x", "usage")
 
 
@@ -558,8 +566,10 @@ def number_rows() -> None:
     for text in ["1", "10000", "0", "10001", "x", "1x", "", "1.0", "1,0", "01", "+3", "0010000", "00", "+0", "+", "++1",
         "4294967297", "18446744073709551617", "9" * 40, "३", "0x1", "1e3"]:
         words(f"load {text}")
-    for text in ["1", "0", "4", "5", "-4", "01", "04", "+1", "+4", "+5", "x", "", "4294967298"]:
+    for text in ["1", "0", "4", "8", "9", "-4", "01", "08", "+1", "+8", "+9", "x", "", "4294967298"]:
         words(f"serve --lanes {text}")
+    for text in ["1", "0", "4", "64", "65", "-4", "01", "064", "+64", "+65", "x", "", "4294967298"]:
+        words(f"serve --workers {text}")
     for text in ["1", "0", "4294967295", "4294967296", "04294967295", "+7", "x", "", "9223372036854775808"]:
         words(f"serve --stop-after {text}")
 
@@ -583,10 +593,14 @@ def refused_rows() -> None:
         "once --stop-after 1", "once --conf c", "once -c c", "once --f c",
         "once -F c", "Once", "ONCE", "on", "o", "oncee", "serve x", "serve --lanes", "serve --lanes 1 --lanes 1",
         "serve --stop-after", "serve --stop-after 1 --stop-after 2",
-        "serve --stop_after 1", "serve --lane 1", "serve --stop 1", "serve -l 1", "serve 3", "serve once", "once serve",
+        "serve --stop_after 1", "serve --lane 1", "serve --worker 1",
+        "serve --workers", "serve --workers 1 --workers 1",
+        "serve --stop 1", "serve -l 1", "serve 3", "serve once", "once serve",
         "load", "load -f c", "load 3 4", "load 3 --stop-after 1",
         "load 3 --lanes 1", "load --count 3", "load -f 3", "relay x", "relay -f", "relay -f a -f b", "relay --lanes 1",
-        "relay --stop-after 1", "relay 3", "relay once", "relay -x", "Relay", "relays", "live", "live -f c", "help",
+        "relay --stop-after 1", "relay --workers 1", "check x", "check -f", "check -f a -f b", "check --lanes 1",
+        "check --workers 1", "check --stop-after 1", "check 3", "Check", "once --workers 1",
+        "load 3 --workers 1", "relay 3", "relay once", "relay -x", "Relay", "relays", "live", "live -f c", "help",
         "help once", "-h", "--help", "-V", "--version", "version",
         "once help", "once --help", "once -h", "once -V", "once --version", "serve --help", "load --help", "load help",
         "-f c once", "--lanes 1 serve", "sudo_logsrvd once", "-x", "--x", "serve -x 1",

@@ -183,20 +183,22 @@ def disk_shared() -> None:
 
 def disk_lanes_events() -> None:
     """What stands at the event log of a lane."""
-    title("a lane does not write over the lines that another program left at its event log")
+    title("a store is not opened over the lines that another program left at the event log of a lane")
     case("disk second root left lanes.1")
     case("disk second create events.0/lines", "ok")
     case(f"disk second write events.0/lines 0 {b'left'.hex()}0a", "ok")
     case("disk second drop")
-    case("disk first root several lanes")
+    case("disk first lanes 3 several lanes")
     for call in ["length events.1/lines", "create events.1/slots", f"write events.1/lines 0 {b'over'.hex()}",
-                 "create_all events.1 lines slots", "sync events.1/lines"]:
+                 "create_all events.1 lines slots", "sync events.1/lines", "create_all events.0 lines slots"]:
         case(f"disk first {call}", "fault")
     case("stored lanes.1", f"bytes {b'left'.hex()}0a")
     case("stored lanes.1.slots", "absent")
+    case("stored several/lock", "absent")
+    title("a store without that lane is opened beside them")
+    case("disk first lanes 1 several lanes")
     case("disk first create_all events.0 lines slots", "ok")
-    case("disk first create_all events.2 lines slots", "ok")
-    case("disk first length events.2/slots", "1 bytes")
+    case("disk first length events.0/slots", "1 bytes")
     case("disk first drop")
 
 
@@ -363,6 +365,13 @@ class File:
         self.span = (min(low, at), max(high, at + count))
         case(f"file write {at} {count}")
 
+    def cut(self, length: int) -> None:
+        """The file is cut: of what was written the bytes before the new end are left, and at least the last one."""
+        if self.span:
+            low, high = self.span
+            self.span = (min(low, max(min(high, length) - 1, 0)), min(high, length))
+        case(f"file cut {length}")
+
     def sync(self) -> None:
         """A sync."""
         is_done = True
@@ -412,6 +421,20 @@ def files() -> None:
     file.write(1, 2)
     file.sync()
     assert file.again == 3
+    file.left()
+    title("a file that was cut has its last byte to bring the new end along")
+    for length, want in ((3, 2), (2, 1), (1, 1), (5, 4)):
+        file = File(False)
+        file.write(1, 4)
+        file.cut(length)
+        file.fail(1)
+        file.sync()
+        file.sync()
+        assert file.again == want, (length, file.again)
+        file.left()
+    file = File(False)
+    file.cut(3)
+    file.sync()
     file.left()
     title("a file that a program before left unsynced is written again")
     for fails, again in [(0, (0, 0, 0)), (1, (0, 6, 6)), (3, (0, 6, 12))]:

@@ -76,6 +76,7 @@ pub fn flushes<W: Wait + Copy>(rt: HostRuntime, waits: W, count: u32) -> Option<
     let Ok(mut disk) = FileDisk::new(rt, waits, "lsvt_bench") else {
         return None;
     };
+    disk.open_store("store", "store/events", 1);
     disk.root("store", "store/events");
     let mut bundle = Bundle::create(rt.alloc(), &mut disk, OWNER, Shape::Log).ok()?;
     let start = Instant::now(&rt).ok()?;

@@ -25,6 +25,7 @@ fn store<W: Wait + Copy>(rt: HostRuntime, waits: W) -> Option<FileDisk<W>> {
     let Ok(mut disk) = FileDisk::new(rt, waits, "lsvt_bench") else {
         return None;
     };
+    disk.open_store("store", "store/events", 1);
     disk.root("store", "store/events");
     Some(disk)
 }

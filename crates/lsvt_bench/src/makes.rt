@@ -27,6 +27,7 @@ pub fn makes<W: Wait + Copy>(rt: HostRuntime, waits: W, count: u32) -> Option<u6
     let Ok(mut disk) = FileDisk::new(rt, waits, "lsvt_bench") else {
         return None;
     };
+    disk.open_store("store", "store/events", 1);
     disk.root("store", "store/events");
     let mut took = Vec::new(rt.alloc());
     for i in 0..count {
@@ -46,6 +47,7 @@ pub fn files<W: Wait + Copy>(rt: HostRuntime, waits: W, number: u32) -> Option<u
     let Ok(mut disk) = FileDisk::new(rt, waits, "lsvt_bench") else {
         return None;
     };
+    disk.open_store("store", "store/events", 1);
     disk.root("store", "store/events");
     draw_through(&mut disk, number)?;
     let _bundle = Bundle::create(rt.alloc(), &mut disk, Owner::Log(number), Shape::Log).ok()?;

@@ -8,8 +8,8 @@ mod show;
 
 use crate::run::World;
 use anyhow::{Result, anyhow};
-use lsv_base::Bytes;
-use lsv_link::Cut;
+use lsv_base::{Bytes, List};
+use lsv_link::{Answer, Cut};
 use std::alloc::Global;
 use std::io::{BufRead, BufReader};
 use std::process::ExitCode;
@@ -21,17 +21,39 @@ fn bytes_of(alloc: Global, digits: &str) -> Result<Bytes> {
     Ok(Bytes::from_vec(hex::decode(alloc, digits)?))
 }
 
+/// A part of the bytes of a connection: how many bytes must have been put before it, and what it is.
+fn part_of(alloc: Global, word: &str) -> Result<Answer> {
+    let (hold, digits) = word.split_once('@').unwrap_or(("0", word));
+    let hold = hold.parse::<u64>()?;
+    let bytes = bytes_of(alloc, digits)?;
+    Ok(Answer { hold, bytes })
+}
+
+/// The bytes of a connection, part by part.
+fn parts_of(alloc: Global, words: &str) -> Result<List<Answer>> {
+    let mut parts = Vec::new(alloc);
+    for word in words.split('+') {
+        let part = part_of(alloc, word)?;
+        parts.push(part)?;
+    }
+    Ok(List::from_vec(parts))
+}
+
+/// How the input of a connection is cut.
+fn cut_of(how: &str, most: u64) -> Result<Cut> {
+    match how {
+        "end" => Ok(Cut::End(most)),
+        "silent" => Ok(Cut::Silent(most)),
+        _ => Err(anyhow!("end or silent")),
+    }
+}
+
 /// A connection more of the link: how its input is cut, and the bytes that it has.
 fn add_answer(alloc: Global, world: &mut World, words: &str) -> Result<()> {
     let (how, rest) = words.split_once(' ').ok_or(anyhow!("a cut"))?;
     let (most, digits) = rest.split_once(' ').unwrap_or((rest, ""));
-    let most = most.parse::<u64>()?;
-    let cut = match how {
-        "end" => Cut::End(most),
-        "silent" => Cut::Silent(most),
-        _ => return Err(anyhow!("end or silent")),
-    };
-    world.add_answer(bytes_of(alloc, digits)?, cut)
+    let cut = cut_of(how, most.parse::<u64>()?)?;
+    world.add_answer(parts_of(alloc, digits)?, cut)
 }
 
 /// Does what a line says. One of another form is printed as it is.

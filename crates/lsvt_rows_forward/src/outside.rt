@@ -2,7 +2,8 @@
 
 use lsv_base::{Clock, LogNo, TimeSpec};
 use lsv_dialogue::Cause;
-use lsv_forward::{Outcome, RelayNotices};
+use lsv_disk::Disk;
+use lsv_forward::{Gaps, Outcome, RelayNotices};
 use lsv_service::{Notices, Site};
 use std::alloc::{AllocError, Global};
 
@@ -40,6 +41,12 @@ impl RelayNotices for Heard {
     }
 }
 
+impl<D: Disk> Gaps<D> for Heard {
+    fn next(&mut self, _disk: &D, from: u32) -> u32 {
+        from
+    }
+}
+
 /// What became of a log, as it is printed.
 fn report_of(alloc: Global, number: u32, outcome: &Outcome) -> Result<String, AllocError> {
     match outcome {
@@ -64,6 +71,7 @@ fn report_of(alloc: Global, number: u32, outcome: &Outcome) -> Result<String, Al
             let name = name_of(cause);
             format!(in alloc; "log {number} {name}")
         }
+        Outcome::Untried => format!(in alloc; "log {number} untried"),
         Outcome::Unopened(_) => format!(in alloc; "log {number} unopened"),
         Outcome::Failed(_) => format!(in alloc; "log {number} failed"),
     }
@@ -72,6 +80,7 @@ fn report_of(alloc: Global, number: u32, outcome: &Outcome) -> Result<String, Al
 /// The name of a cause.
 fn name_of(cause: &Cause) -> &'static str {
     match cause {
+        Cause::Unreached => "unreached",
         Cause::NotYet => "not yet",
         Cause::Ended => "ended",
         Cause::Failed => "connection failed",

@@ -8,7 +8,7 @@ use anyhow::{Result, anyhow};
 use lsv_base::{Bytes, List, MemSink, MemSource, MemTexts, NoMem, Text};
 use lsv_hook::{Formatter, JsonLines, SudoLines};
 use lsv_lane::Bay;
-use lsv_link::{Cut, MemLink};
+use lsv_link::{Answer, Cut, MemLink};
 use lsv_mask::{Prompt, TextSearch};
 use lsv_port::{MemPort, NoBell};
 use lsv_serve::{Kept, Outside, logsrvd, words_ask_for_few_lanes};
@@ -45,7 +45,7 @@ pub struct World {
     /// The input of the next run of `once`.
     pieces: List<Bytes>,
     /// The connections of the next run of `relay`.
-    answers: Vec<Bytes>,
+    answers: Vec<List<Answer>>,
     cuts: Vec<Cut>,
     /// These calls of its link fail.
     failing: Vec<u64>,
@@ -86,8 +86,8 @@ impl World {
     }
 
     /// A connection more.
-    pub fn add_answer(&mut self, answer: Bytes, cut: Cut) -> Result<()> {
-        self.answers.push(answer)?;
+    pub fn add_answer(&mut self, answers: List<Answer>, cut: Cut) -> Result<()> {
+        self.answers.push(answers)?;
         Ok(self.cuts.push(cut)?)
     }
 
@@ -136,29 +136,51 @@ fn bay(alloc: Global) -> Result<Bay<Hostile, Still, NoTape>> {
     })
 }
 
-/// A port over which nothing comes.
-fn port(alloc: Global) -> Watched {
-    Watched::new(alloc, MemPort::new(alloc, Vec::new(alloc)))
+/// Those of seven lanes.
+fn bays(alloc: Global) -> Result<Vec<Bay<Hostile, Still, NoTape>>>
+    ensures { IfOk result (λ bays. length bays.items ≡ 7) }
+{
+    Ok(vec![in alloc;
+        bay(alloc)?,
+        bay(alloc)?,
+        bay(alloc)?,
+        bay(alloc)?,
+        bay(alloc)?,
+        bay(alloc)?,
+        bay(alloc)?,
+    ]?)
 }
 
-/// What a run stands in, with the bays of four lanes. The store of lane 0 is taken for it.
+/// A port over which nothing comes.
+fn ports(alloc: Global) -> Result<Vec<Watched>>
+    ensures { IfOk result (λ ports. length ports.items ≡ 1) }
+{
+    let port = Watched::new(alloc, MemPort::new(alloc, Vec::new(alloc)));
+    Ok(vec![in alloc; port]?)
+}
+
+/// What a run stands in, with the bays of eight lanes. The store of lane 0 is taken for it.
 fn outside(world: &mut World) -> Result<MemOutside>
-    ensures { IfOk result (λ out. (length out.ports.items ≡ 1) × (length out.others.items ≡ 3)) }
+    ensures { IfOk result (λ out. (length out.ports.items ≡ 1) × (length out.others.items ≡ 7)) }
 {
     let alloc = world.alloc;
+    let ports = ports(alloc)?;
+    let others = bays(alloc)?;
     let texts = world.texts()?;
-    let link = world.link();
+    let empty = empty(alloc)?;
+    // Nothing fails from here on.
+    let disk = mem::replace(&mut world.disk, empty);
     let pieces = mem::replace(&mut world.pieces, List::new(alloc));
-    let disk = mem::replace(&mut world.disk, empty(alloc)?);
+    let link = world.link();
     Ok(Outside {
         source: MemSource::new(alloc, pieces, Vec::new(alloc)),
         sink: MemSink::new(alloc, Vec::new(alloc)),
-        ports: vec![in alloc; port(alloc)]?,
+        ports,
         bells: Vec::new(alloc),
         disk,
         clock: Still,
         tape: NoTape,
-        others: vec![in alloc; bay(alloc)?, bay(alloc)?, bay(alloc)?]?,
+        others,
         texts,
         link,
         notices: Heard {

@@ -2,6 +2,8 @@
 //! README.md says what a case is.
 #![tactic(auto)]
 
+ghost use Rattle.std.specs.Prelude.{◌≡◌, true};
+
 mod case;
 mod scripted;
 mod shown;
@@ -10,34 +12,34 @@ mod tcp;
 use crate::case::Case;
 use crate::scripted::Scripted;
 use anyhow::Result;
-use lsv_dialogue::{Speaker, run};
+use lsv_dialogue::run;
 use std::io::{BufRead, BufReader};
 use std::process::ExitCode;
 
 /// The host of each conversation.
 const HOST: &str = "relay.test:30343";
 
-/// Holds one conversation, and prints its end, what was written, and how many messages were heard.
-fn converse(rt: &HostRuntime, words: &str) -> Result<()> {
+/// Holds one conversation, and prints its end, what was written, its reads, and how many messages were heard.
+fn converse(rt: &HostRuntime, case: Case) -> Result<()>
+    requires { case.speaker.busy ≡ true }
+{
     let alloc = rt.alloc();
-    let case = Case::read(alloc, words)?;
     let mut link = case.link;
     let mut speaker: Scripted = case.speaker;
-    if <Scripted as Speaker<u32>>::is_over(&speaker) {
-        return Ok(println!(rt; "there is nothing to wait for")?);
-    }
     let mut steps: u32 = 0;
     let end = run(alloc, &mut speaker, &mut steps, &mut link, HOST);
     shown::print_end(rt, end)?;
     shown::print_connection(rt, &link, 0)?;
-    let heard = speaker.heard.saturating_add(speaker.late);
-    Ok(println!(rt; "{heard} messages were heard in {steps} steps")?)
+    let heard = speaker.heard.saturating_add(u64::from(speaker.last));
+    let late = speaker.late;
+    Ok(println!(rt; "{heard} messages were heard, {late} late, in {steps} steps")?)
 }
 
 /// Does one case. Any other line is printed as it is.
 fn answer(rt: &HostRuntime, case: &str) -> Result<()> {
     match case.split_once(' ') {
-        Some(("talk", words)) => converse(rt, words),
+        Some(("talk", words)) => converse(rt, Case::read(rt.alloc(), words)?),
+        Some(("room", words)) => converse(rt, Case::read_room(rt.alloc(), words)?),
         _ if case == "tcp" => tcp::show(rt),
         _ => Ok(println!(rt; "{case}")?),
     }

@@ -3,7 +3,7 @@
 use anyhow::Result as Answer;
 use lsv_base::NoMem;
 use lsv_dialogue::{Cause, End, TalkFault};
-use lsv_link::MemLink;
+use lsv_link::{Look, MemLink};
 
 /// Prints how a conversation ended.
 pub fn print_end(rt: &HostRuntime, end: Result<End, TalkFault<NoMem>>) -> Answer<()> {
@@ -20,6 +20,7 @@ fn print_cause(rt: &HostRuntime, cause: Cause) -> Answer<()> {
             let digits = hex::encode(rt.alloc(), text.as_slice())?;
             println!(rt; "said {digits}")?;
         }
+        Cause::Unreached => println!(rt; "unreached")?,
         Cause::NotYet => println!(rt; "not yet")?,
         Cause::Ended => println!(rt; "ended")?,
         Cause::Failed => println!(rt; "failed")?,
@@ -33,7 +34,15 @@ fn print_cause(rt: &HostRuntime, cause: Cause) -> Answer<()> {
     Ok(())
 }
 
-/// Prints what was written on a connection, if there is one.
+/// Prints a read of a connection: how much had been written before it, how many bytes it gave, whether it might wait, and
+/// how often the connection was renewed before it.
+fn print_look(rt: &HostRuntime, look: Look) -> Answer<()> {
+    let kind = if look.waited { "waited" } else { "looked" };
+    let (put, came, renewed) = (look.put, look.came, look.renewed);
+    Ok(println!(rt; "{kind} after {put}: {came}, renewed {renewed}")?)
+}
+
+/// Prints what was written on a connection, if there is one, and its reads.
 pub fn print_connection(rt: &HostRuntime, link: &MemLink, place: usize) -> Answer<()> {
     let Some(conn) = link.connection(place) else {
         return Ok(println!(rt; "no connection")?);
@@ -41,5 +50,9 @@ pub fn print_connection(rt: &HostRuntime, link: &MemLink, place: usize) -> Answe
     let alloc = rt.alloc();
     let output = hex::encode(alloc, conn.output.as_slice())?;
     let input = conn.input.as_slice().len();
-    Ok(println!(rt; "wrote {output} and read {input} bytes")?)
+    println!(rt; "wrote {output} and read {input} bytes")?;
+    for look in conn.looks.as_slice() {
+        print_look(rt, *look)?;
+    }
+    Ok(())
 }

@@ -62,6 +62,7 @@ pub fn show(rt: &HostRuntime) -> Result<()> {
     show_peer(rt, &mut peer)?;
     let _ = peer.write(b"welcome")?;
     show_read(rt, &mut link, true)?;
+    link.renew();
     drop(peer);
     show_read(rt, &mut link, true)?;
     link.close();

@@ -1,8 +1,8 @@
 //! The words of a case.
 
 use anyhow::{Result, anyhow};
-use lsv_base::Bytes;
-use lsv_link::{Cut, MemLink};
+use lsv_base::{Bytes, List};
+use lsv_link::{Answer, Cut, MemLink};
 use std::alloc::Global;
 
 /// A number's list with points between, or `-` for none.
@@ -28,6 +28,15 @@ fn cut(word: &str) -> Result<Cut> {
     }
 }
 
+/// `DIGITS`, or `HOLD@DIGITS`: bytes that come once so many were written.
+fn answer(alloc: Global, word: &str) -> Result<Answer> {
+    let (hold, digits) = word.split_once('@').unwrap_or(("0", word));
+    Ok(Answer {
+        hold: hold.parse::<u64>()?,
+        bytes: Bytes::from_vec(hex::decode(alloc, digits)?),
+    })
+}
+
 /// The link of one run: how its input is cut, which of its calls fail, and what the upstream sends.
 pub fn link(alloc: Global, word: &str, fails: Option<u64>) -> Result<MemLink> {
     let (cut_word, rest) = word.split_once('/').ok_or(anyhow!("a run"))?;
@@ -36,8 +45,12 @@ pub fn link(alloc: Global, word: &str, fails: Option<u64>) -> Result<MemLink> {
     if let Some(number) = fails {
         failing.push(number)?;
     }
+    let mut given = Vec::new(alloc);
+    for word in digits.split('+') {
+        given.push(answer(alloc, word)?)?;
+    }
     let mut answers = Vec::new(alloc);
-    answers.push(Bytes::from_vec(hex::decode(alloc, digits)?))?;
+    answers.push(List::from_vec(given))?;
     let mut cuts = Vec::new(alloc);
     cuts.push(cut(cut_word)?)?;
     Ok(MemLink::new(alloc, answers, cuts, failing))

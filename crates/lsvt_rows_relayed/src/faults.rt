@@ -28,12 +28,18 @@ impl Mishap {
 }
 
 /// Adds what each crash image of a disk keeps after this run, if it isn't there yet.
-fn add_images(alloc: Global, disk: &Hostile, run: usize, states: &mut Vec<String>) -> Result<()> {
+fn add_images(
+    alloc: Global,
+    disk: &Hostile,
+    host: &str,
+    run: usize,
+    states: &mut Vec<String>,
+) -> Result<()> {
     for fill in FILLS {
         let mut image = disk
             .image(alloc, fill, Plan::Whole)
             .map_err(|_| anyhow!("out of memory"))?;
-        let state = runs::kept(alloc, &mut image)?;
+        let state = runs::kept(alloc, &mut image, host)?;
         let line = format!(in alloc; "run {run}: {state}")?;
         if !states.contains(&line) {
             states.push(line)?;
@@ -46,9 +52,10 @@ fn add_images(alloc: Global, disk: &Hostile, run: usize, states: &mut Vec<String
 fn play(alloc: Global, words: &str, mishap: Mishap, states: &mut Vec<String>) -> Result<u64> {
     let mut disk = store::disk(alloc, mishap.disk)?;
     for (before, word) in words.split(' ').enumerate() {
+        let (host, word) = runs::host_in(word);
         let mut link = case::link(alloc, word, mishap.link)?;
-        let _end = runs::once(alloc, &mut disk, &mut link)?;
-        add_images(alloc, &disk, before.saturating_add(1), states)?;
+        let _end = runs::once(alloc, &mut disk, &mut link, host)?;
+        add_images(alloc, &disk, host, before.saturating_add(1), states)?;
     }
     Ok(disk.calls())
 }

@@ -18,6 +18,7 @@ pub fn end(alloc: Global, end: &Result<RelayEnd, RelayFault>) -> Answer<String> 
 
 fn cause(alloc: Global, cause: &Cause) -> Answer<String> {
     let text = match cause {
+        Cause::Unreached => String::from_str(alloc, "unreached")?,
         Cause::NotYet => String::from_str(alloc, "not yet")?,
         Cause::Ended => String::from_str(alloc, "ended")?,
         Cause::Failed => String::from_str(alloc, "failed")?,

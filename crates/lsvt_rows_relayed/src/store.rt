@@ -20,6 +20,9 @@ const KEYS: [(&str, &str); 4] = [
     ("submithost", "h"),
 ];
 
+/// The elapsed time of the log, in nanoseconds.
+pub const TIME: u64 = 3_500_000_000;
+
 /// The number of the log.
 pub fn number() -> Result<LogNo> {
     LogNo::new(1).ok_or(anyhow!("a number"))

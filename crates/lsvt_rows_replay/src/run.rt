@@ -1,10 +1,13 @@
 //! Runs of the program, and what they put.
 
+use crate::outside::{Acts, Gap};
+use crate::store;
 use anyhow::{Result, anyhow};
 use lsv_base::{Bytes, List, NoMem};
-use lsv_disk::MemDisk;
+use lsv_disk::{Disk, MemDisk};
+use lsv_follow::{Nobody, Others};
 use lsv_play::{Item, MemScreen};
-use lsv_replay::{ReplayStatus, sudoreplay};
+use lsv_replay::{Gaps, NoGaps, ReplayStatus, sudoreplay};
 use md5::{Digest, Md5};
 use std::alloc::Global;
 use std::str;
@@ -26,17 +29,29 @@ pub fn words_of(alloc: Global, line: &str) -> Result<List<Bytes>, NoMem> {
     Ok(List::from_vec(words))
 }
 
-/// Runs the program on a screen of which this call fails.
+/// Runs the program on a screen of which this call fails, beside others.
+fn run_beside<D: Disk, O: Others<D>, G: Gaps<D>>(
+    alloc: Global,
+    disk: &mut D,
+    fail: u64,
+    line: &str,
+    others: &mut O,
+    gaps: &mut G,
+) -> Result<(MemScreen, ReplayStatus), NoMem> {
+    let words = words_of(alloc, line)?;
+    let mut screen = MemScreen::new(alloc, vec![in alloc; fail]?);
+    let status = sudoreplay(alloc, &words, disk, &mut screen, others, gaps);
+    Ok((screen, status))
+}
+
+/// The same of a store that nobody else writes.
 fn run(
     alloc: Global,
     disk: &mut MemDisk,
     fail: u64,
     line: &str,
 ) -> Result<(MemScreen, ReplayStatus), NoMem> {
-    let words = words_of(alloc, line)?;
-    let mut screen = MemScreen::new(alloc, vec![in alloc; fail]?);
-    let status = sudoreplay(alloc, &words, disk, &mut screen);
-    Ok((screen, status))
+    run_beside(alloc, disk, fail, line, &mut Nobody, &mut NoGaps)
 }
 
 /// Prints how a run ended.
@@ -49,15 +64,38 @@ fn show_status(rt: &HostRuntime, status: ReplayStatus) -> Result<()> {
 
 /// Prints what a run shows, and how it ended.
 pub fn show(rt: &HostRuntime, disk: &mut MemDisk, fail: u64, line: &str) -> Result<()> {
+    let (screen, status) = run(rt.alloc(), disk, fail, line)?;
+    show_items(rt, screen.items())?;
+    show_status(rt, status)
+}
+
+/// The same over a copy of the store, which others write act by act, and of which a gap is known.
+pub fn show_outside(
+    rt: &HostRuntime,
+    disk: &MemDisk,
+    fail: u64,
+    line: &str,
+    acts: &mut Acts,
+    gap: Gap,
+) -> Result<()> {
     let alloc = rt.alloc();
-    let (screen, status) = run(alloc, disk, fail, line)?;
-    for item in screen.items() {
+    let mut copy = store::copy_for(alloc, disk, gap.end())?;
+    let mut gap = gap;
+    acts.begin();
+    let (screen, status) = run_beside(alloc, &mut copy, fail, line, acts, &mut gap)?;
+    show_items(rt, screen.items())?;
+    show_status(rt, status)
+}
+
+/// Prints what was waited and put.
+fn show_items(rt: &HostRuntime, items: &[Item]) -> Result<()> {
+    for item in items {
         match item {
             Item::Wait(nanos) => println!(rt; "wait {nanos}")?,
-            Item::Put(bytes) => println!(rt; "put {}", hex::encode(alloc, bytes.as_slice())?)?,
+            Item::Put(bytes) => println!(rt; "put {}", hex::encode(rt.alloc(), bytes.as_slice())?)?,
         }
     }
-    show_status(rt, status)
+    Ok(())
 }
 
 /// Prints how many items a run shows, the nanoseconds that it waits in all, the MD5 digest of the bytes that it puts, and

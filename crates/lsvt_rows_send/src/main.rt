@@ -5,23 +5,33 @@
 mod run;
 mod store;
 
-use crate::run::Setting;
+use crate::run::{Held, Setting};
 use anyhow::{Result, anyhow};
-use lsv_link::Cut;
+use lsv_link::{Cut, MemLink};
+use lsv_send::{an_other_end_serves, sent_means_held};
 use std::alloc::Global;
 use std::io::{BufRead, BufReader};
 use std::process::ExitCode;
 
-/// The answer of a connection, of two or three words: `end` or `silent`, after how many bytes, and the digits of the bytes.
-fn set_answer(alloc: Global, setting: &mut Setting, words: &str) -> Result<()> {
-    let (kind, rest) = words.split_once(' ').ok_or(anyhow!("a cut"))?;
-    let (after, digits) = rest.split_once(' ').unwrap_or((rest, ""));
-    let after = after.parse::<u64>()?;
+/// The answers of a connection: `end` or `silent`, after how many bytes, and pairs of the count of bytes that must have been
+/// put, a colon, and the digits of the bytes.
+fn set_answers(alloc: Global, setting: &mut Setting, words: &str) -> Result<()> {
+    let mut words = words.split(' ');
+    let kind = words.next().ok_or(anyhow!("a cut"))?;
+    let after = words.next().ok_or(anyhow!("a count"))?.parse::<u64>()?;
     setting.cut = match kind {
         "end" => Cut::End(after),
         _ => Cut::Silent(after),
     };
-    setting.answer = hex::decode(alloc, digits)?;
+    setting.answers = Vec::new(alloc);
+    for word in words {
+        let (hold, digits) = word.split_once(':').ok_or(anyhow!("an answer"))?;
+        let bytes = hex::decode(alloc, digits)?;
+        setting.answers.push(Held {
+            hold: hold.parse::<u64>()?,
+            bytes,
+        })?;
+    }
     Ok(())
 }
 
@@ -38,7 +48,7 @@ fn answer(rt: &HostRuntime, setting: &mut Setting, case: &str) -> Result<()> {
             let file = store::file_of(alloc, rest)?;
             Ok(setting.files.push(file)?)
         }
-        "answer" => set_answer(alloc, setting, rest),
+        "answer" => set_answers(alloc, setting, rest),
         "run" => run::show(rt, setting, run::NONE, rest),
         "fail" => run::fail(rt, setting, rest),
         "each" => run::each(rt, setting, rest),
@@ -47,10 +57,12 @@ fn answer(rt: &HostRuntime, setting: &mut Setting, case: &str) -> Result<()> {
 }
 
 fn answer_all(rt: &HostRuntime) -> Result<()> {
+    sent_means_held::<MemLink>();
+    an_other_end_serves::<MemLink>();
     let alloc = rt.alloc();
     let mut setting = Setting {
         files: Vec::new(alloc),
-        answer: Vec::new(alloc),
+        answers: Vec::new(alloc),
         cut: Cut::End(0),
     };
     for case in BufReader::new(alloc, rt.reader())?.lines(alloc) {

@@ -5,17 +5,24 @@ use anyhow::{Result, anyhow};
 use lsv_base::{Bytes, List, MemSink, NoMem};
 use lsv_dialogue::Cause;
 use lsv_iolog::LogFault;
-use lsv_link::{Cut, MemLink};
+use lsv_link::{Answer, Cut, MemLink};
 use lsv_send::{SendStatus, sudo_sendlog};
 use std::alloc::Global;
 use std::str;
+
+/// What the server sends once this number of bytes was put.
+#[derive(Drop)]
+pub struct Held {
+    pub hold: u64,
+    pub bytes: Vec<u8>,
+}
 
 /// What a case stands on.
 #[derive(Drop)]
 pub struct Setting {
     pub files: Vec<File>,
     /// What the server sends on the one connection.
-    pub answer: Vec<u8>,
+    pub answers: Vec<Held>,
     pub cut: Cut,
 }
 
@@ -61,11 +68,23 @@ fn words_of(alloc: Global, line: &str) -> Result<List<Bytes>, NoMem> {
     Ok(List::from_vec(words))
 }
 
+/// The answers of the one connection.
+fn answers_of(alloc: Global, held: &[Held]) -> Result<List<Answer>, NoMem> {
+    let mut answers = Vec::new(alloc);
+    for one in held {
+        answers.push(Answer {
+            hold: one.hold,
+            bytes: Bytes::of(alloc, &one.bytes)?,
+        })?;
+    }
+    Ok(List::from_vec(answers))
+}
+
 /// Runs the program.
 fn run(alloc: Global, setting: &Setting, fails: Fails, line: &str) -> Result<Ran> {
     let words = words_of(alloc, line)?;
     let mut disk = disk_of(alloc, &setting.files, fails.disk)?;
-    let answers = vec![in alloc; Bytes::of(alloc, &setting.answer)?]?;
+    let answers = vec![in alloc; answers_of(alloc, &setting.answers)?]?;
     let cuts = vec![in alloc; setting.cut]?;
     let mut link = MemLink::new(alloc, answers, cuts, vec![in alloc; fails.link]?);
     let mut sink = MemSink::new(alloc, vec![in alloc; fails.sink]?);
@@ -147,6 +166,7 @@ fn show_cause(rt: &HostRuntime, number: u8, cause: &Cause) -> Result<()> {
             )?;
         }
         Cause::Strange(point) => println!(rt; "status {number} Strange {}", point.nanos())?,
+        Cause::Unreached => println!(rt; "status {number} Unreached")?,
         Cause::NotYet => println!(rt; "status {number} NotYet")?,
         Cause::Ended => println!(rt; "status {number} Ended")?,
         Cause::Failed => println!(rt; "status {number} Failed")?,

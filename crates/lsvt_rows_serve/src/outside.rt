@@ -1,7 +1,8 @@
 //! A clock that stands still, and who keeps what a server tells at its start.
 
 use lsv_base::{Bytes, Clock, LogNo, TimeSpec};
-use lsv_forward::{Outcome, RelayNotices};
+use lsv_disk::Disk;
+use lsv_forward::{Gaps, Outcome, RelayNotices};
 use lsv_service::{Notices, Site};
 use std::alloc::Global;
 
@@ -56,4 +57,10 @@ impl RelayNotices for Heard {
     fn relaying(&mut self, _number: LogNo, _last: u32) {}
 
     fn relayed(&mut self, _number: LogNo, _outcome: &Outcome) {}
+}
+
+impl<D: Disk> Gaps<D> for Heard {
+    fn next(&mut self, _disk: &D, from: u32) -> u32 {
+        from
+    }
 }

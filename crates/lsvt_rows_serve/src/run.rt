@@ -40,7 +40,7 @@ pub type MemOutside = Outside<
 >;
 
 /// The bays of the lanes after lane 0.
-const OTHERS: usize = 3;
+const OTHERS: usize = 7;
 
 /// What the runs of a server have in common: its store, and its settings file.
 #[derive(Drop)]
@@ -131,7 +131,7 @@ fn ports_of(alloc: Global, scripts: Vec<Vec<Step>>) -> Result<Vec<Watched>>
 
 /// A bay for each of these disks.
 fn bays_of(alloc: Global, disks: Vec<Hostile>) -> Result<Vec<Bay<Hostile, Still, Jobs>>>
-    ensures { IfOk result (λ bays. length bays.items ≡ 3) }
+    ensures { IfOk result (λ bays. length bays.items ≡ 7) }
 {
     let mut bays = Vec::new(alloc);
     for disk in disks {
@@ -149,7 +149,7 @@ fn bays_of(alloc: Global, disks: Vec<Hostile>) -> Result<Vec<Bay<Hostile, Still,
 
 /// What a run of these ports stands in. The store is taken for it.
 fn outside(alloc: Global, world: &mut World, ports: Vec<Watched>) -> Result<MemOutside>
-    ensures { IfOk result (λ out. (out.ports ≡ ports) × (length out.others.items ≡ 3)) }
+    ensures { IfOk result (λ out. (out.ports ≡ ports) × (length out.others.items ≡ 7)) }
 {
     let texts = world.texts(alloc)?;
     let disk = mem::replace(&mut world.disk, disk::empty(alloc, Plan::Whole)?);

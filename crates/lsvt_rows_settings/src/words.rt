@@ -24,7 +24,10 @@ fn words_of(alloc: Global, line: &str) -> Result<List<Bytes>, NoMem>
 /// Prints what a command is told.
 fn show(rt: &HostRuntime, command: &str, opts: &Opts) -> Result<()> {
     let conf = str::from_utf8(opts.conf.as_slice()).map_err(|_| anyhow!("no text"))?;
-    print!(rt; "{command} {conf:?} lanes {}", opts.lanes)?;
+    print!(rt;
+        "{command} {conf:?} lanes {} workers {}",
+        opts.lanes, opts.workers
+    )?;
     match opts.stop_after {
         Some(n) => println!(rt; " stop after {n}")?,
         None => println!(rt; "")?,
@@ -40,6 +43,7 @@ fn answer(rt: &HostRuntime, words: &List<Bytes>) -> Result<()>
         Ok(Command::Once(opts)) => show(rt, "once", &opts),
         Ok(Command::Serve(opts)) => show(rt, "serve", &opts),
         Ok(Command::Relay(opts)) => show(rt, "relay", &opts),
+        Ok(Command::Check(opts)) => show(rt, "check", &opts),
         Ok(Command::Load(opts, count)) => {
             print!(rt; "{count} ")?;
             show(rt, "load", &opts)

@@ -121,12 +121,29 @@ fn answer_by<R: Wait + Copy>(
     make_call(rt, disk, call)
 }
 
+/// Opens the store at these places with this many lanes, and lets the disk take it.
+fn open_store<R: Wait + Copy>(disk: &mut FileDisk<R>, lanes: u32, dir: &str, events: &str) {
+    disk.open_store(dir, events, lanes);
+    disk.root(dir, events);
+}
+
+/// The same with the number of lanes as it was written, and both places.
+fn open_lanes<R: Wait + Copy>(disk: &mut FileDisk<R>, lanes: &str, places: &str) -> Result<()> {
+    let (dir, events) = places.split_once(' ').ok_or(anyhow!("two places"))?;
+    open_store(disk, lanes.parse::<u32>()?, dir, events);
+    Ok(())
+}
+
 /// Makes a call of a disk.
 fn make_call<R: Wait + Copy>(rt: &HostRuntime, disk: &mut FileDisk<R>, call: &str) -> Result<()> {
     let (word, rest) = call.split_once(' ').ok_or(anyhow!("a call"))?;
     let (of, rest) = rest.split_once(' ').unwrap_or((rest, ""));
     match word {
-        "root" => Ok(disk.root(of, rest)),
+        "root" => {
+            open_store(disk, 1, of, rest);
+            Ok(())
+        }
+        "lanes" => open_lanes(disk, of, rest),
         "create" => show_done(rt, disk.create(file_of(of)?)),
         "create_all" => create_all(rt, disk, of, rest),
         "length" => show_length(rt, disk, of),

@@ -76,6 +76,7 @@ impl Syncing {
             "found" => *self = Syncing::begin(Unsynced::found()),
             "fails" => self.file.fails.set(rest.parse::<u32>()?),
             "write" => self.note(rest)?,
+            "cut" => self.unsynced.end_at(rest.parse::<u64>()?),
             "sync" => self.show_sync(rt)?,
             "left" => self.show_left(rt)?,
             _ => return Err(anyhow!("a case of a file")),

@@ -6,7 +6,8 @@ ghost use Rattle.lsv_event.specs.declared.event.Kind.TheVariants as kinds;
 use crate::disks::Slow;
 use crate::ports::Meets;
 use lsv_base::{Bytes, Clock, List, LogNo, MemSink, MemSource, MemTexts, NoMem, TimeSpec};
-use lsv_forward::{Outcome, RelayNotices};
+use lsv_disk::Disk;
+use lsv_forward::{Gaps, Outcome, RelayNotices};
 use lsv_hook::{Formatter, JsonLines, SudoLines};
 use lsv_lane::Bay;
 use lsv_link::MemLink;
@@ -24,7 +25,7 @@ use std::test::Fail;
 use std::thread::Threads;
 
 /// The bays of the lanes after lane 0.
-const OTHERS: usize = 3;
+const OTHERS: usize = 7;
 
 /// A clock that stands still.
 #[derive(Drop)]
@@ -83,6 +84,12 @@ impl RelayNotices for Nobody {
     fn relayed(&mut self, _number: LogNo, _outcome: &Outcome) {}
 }
 
+impl<D: Disk> Gaps<D> for Nobody {
+    fn next(&mut self, _disk: &D, from: u32) -> u32 {
+        from
+    }
+}
+
 /// What a run of these ports stands in.
 type TestOutside<'a> = Outside<
     MemSource,
@@ -123,7 +130,7 @@ pub(crate) fn starved<'a>(disk: Slow<'a>) -> TestBay<'a> {
     }
 }
 
-/// What a run of these ports stands in, over the bays of lanes 0 and 1, and two more.
+/// What a run of these ports stands in, over the bays of lanes 0 and 1, and six more.
 fn outside<'a>(
     alloc: Global,
     ports: Vec<Meets<'a>>,
@@ -131,10 +138,14 @@ fn outside<'a>(
     second: TestBay<'a>,
 ) -> Result<TestOutside<'a>, NoMem>
     ensures ports { IfOk result (λ out. length out.ports.items ≡ length ports.entry.items) }
-    ensures others { IfOk result (λ out. length out.others.items ≡ 3) }
+    ensures others { IfOk result (λ out. length out.others.items ≡ 7) }
 {
     let mut others = Vec::with_capacity(alloc, OTHERS)?;
     others.push(second)?;
+    others.push(bay(Slow::quick(empty(alloc)?)))?;
+    others.push(bay(Slow::quick(empty(alloc)?)))?;
+    others.push(bay(Slow::quick(empty(alloc)?)))?;
+    others.push(bay(Slow::quick(empty(alloc)?)))?;
     others.push(bay(Slow::quick(empty(alloc)?)))?;
     others.push(bay(Slow::quick(empty(alloc)?)))?;
     let Bay { disk, clock, tape } = first;
