@@ -8,6 +8,7 @@ from __future__ import annotations
 from collections.abc import Mapping
 from typing import Any
 
+import at_root
 from oracle import messages
 from oracle.connection import Closed, Connection, connect
 from oracle.messages import CLIENT, CLIENT_NUMBER as NUMBER, entry, nanoseconds, read_client, read_server, timespec

@@ -26,12 +26,13 @@ import subprocess
 import sys
 from collections.abc import Callable, Iterator, Sequence
 
+import at_root
 import client
 import power
 import servers
 import store
 from oracle import sudo
-from oracle.connection import Closed, Connection
+from oracle.connection import PATIENCE, Closed, Connection
 from oracle.records import SECOND, Record, elapsed
 INFO = {"command": "/usr/bin/vi", "runargv": ["vi", "/etc/motd"], "runuser": "root", "submituser": "ann",
     "submithost": "web1", "submitcwd": "/"}
@@ -78,7 +79,7 @@ def files_left(kind: str, maker: str) -> int:
     try:
         for number in numbers(folder):
             child = subprocess.run([maker, "files", str(number)], cwd=disk.mounted, capture_output=True, text=True,
-                timeout=20, check=False)
+                timeout=PATIENCE, check=False)
             if child.returncode:
                 raise Lost(f"{maker}: status {child.returncode}: {child.stderr}")
             disk.cut()

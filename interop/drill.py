@@ -2,7 +2,7 @@
 """Kills a server with -9 at random moments, under load, and starts it again on the same store.
 
 usage: drill.py --server PROGRAM [--as serve|once] [--lanes N] [--kills N] [--clients N] [--seed N] [--fault NAME]
-                [--power KIND]
+                [--power KIND] [--check LOGCHECK] [--most SECONDS]
 
 Clients open logs, send records and exits, read commit points, are cut off with the server or close by themselves, and
 resume at their last commit point with records that they make anew. After each kill, before the next start, store.py
@@ -14,11 +14,20 @@ reads the store:
 the earlier ones;
 - the accept of each log that a client knows has just one event line, an exit with its commit point too.
 
+With --check the program sudo_logcheck reads the store and the event logs too: it must call nothing damaged, and say of
+each that was read just what store.py reads.
+
 A restart must be accepted wherever the log isn't complete. `once` has one client, on a pair of sockets, and a
 process for each connection. With --power the store stands on a file system of that kind whose power is cut after
 each kill (power.py), so that what did not reach the device is gone; root alone may do that, and where the machine
-lacks the kind it ends with 3. --fault is handed to model.py, the wrong server by which the drill is tried. It ends
-with 1 where something differs; ended by SIGTERM it says what was found until then.
+lacks the kind it ends with 3.
+
+After its kills it goes on until each of these was tried: logs, commit points, exits, restarts, and connections that a
+kill cuts off. Each further life is longer, so that a slow machine comes to all of them. That takes --most seconds at
+most, by default 900; what is then untried is a fault.
+
+--fault is handed to model.py, the wrong server by which the drill is tried. It ends with 1 where something differs;
+ended by SIGTERM it says what was found until then.
 """
 from __future__ import annotations
 
@@ -31,15 +40,18 @@ import signal
 import sys
 import threading
 import time
+import traceback
 from collections.abc import Sequence
 from typing import Any
 
+import at_root
+import checked
 import client
 import power
 import servers
 import store
 from oracle import lines
-from oracle.connection import Closed, Connection
+from oracle.connection import PATIENCE, Closed, Connection
 from oracle.messages import Info
 from oracle.records import SECOND, STREAMS, Record, cut_at, elapsed
 INFO = {"command": "/usr/bin/vi", "runargv": ["vi", "/etc/motd"], "runuser": "root", "submituser": "ann",
@@ -154,6 +166,7 @@ class Drill:
         further += ["--fault", args.fault] if args.fault else []
         self.server = kind(os.path.realpath(args.server), self.place, further)
         self.clients = 1 if self.server.is_alone() else args.clients
+        self.checker = args.check and os.path.realpath(args.check)
         self.lock, self.greeted, self.sending, self.wrong = threading.Lock(), threading.Event(), threading.Event(), []
         self.sessions, self.open, self.exits = {}, [], {}
         # what the event logs have: the lines of each lane's, the accept and the exit of each log, and how many rejects
@@ -178,7 +191,7 @@ class Drill:
 
     def connection(self) -> Connection:
         """A connection whose hello came."""
-        link = self.server.connect(timeout=60)
+        link = self.server.connect()
         name, content = link.read()
         if name != "hello":
             raise Wrong(f"{name} {content} for a hello")
@@ -302,9 +315,11 @@ class Drill:
             except (Closed, ConnectionError) as fault:
                 self.cut_off(link, fault)
             except TimeoutError as fault:
-                self.wrong.append(f"no answer: {fault}")
+                self.wrong.append(f"no answer: {fault}; {self.server.seen()}")
             except (Wrong, servers.Failed) as fault:
                 self.wrong.append(str(fault))
+            except Exception:  # pylint: disable=broad-except
+                self.wrong.append(traceback.format_exc())
             finally:
                 if link:
                     link.close()
@@ -321,7 +336,7 @@ class Drill:
         except OSError:
             said = []
         if not self.dead:
-            self.wrong.append(f"the server ended a connection: {fault}; it said {said}; {self.place.said()[-300:]}")
+            self.wrong.append(f"the server ended a connection: {fault}; it answered {said}; {self.server.seen()}")
 
     def next_session(self, link: Connection, session: Session | None, rng: random.Random) -> Session | None:
         """One connection. Gives the session that is to be resumed, or None."""
@@ -383,7 +398,7 @@ class Drill:
         for thread in threads:
             thread.start()
         if self.rng.random() < 0.9:
-            self.greeted.wait(20)
+            self.greeted.wait(PATIENCE)
         time.sleep(seconds)
         if self.rng.random() < 0.5:
             # right behind a send, so that the server is at work
@@ -411,10 +426,13 @@ class Drill:
         try:
             at_rest = [session for session in self.sessions.values() if session.at_rest is not None]
             written = [session for session in self.sessions.values() if session.at_rest is None]
+            logs = {}
             for session in written + (at_rest if whole else self.rng.sample(at_rest, min(10, len(at_rest)))):
-                log = store.read_log(self.place.store, session.digits)
+                log = logs[session.digits] = store.read_log(self.place.store, session.digits)
                 session.check(log)
                 session.settle(log)
+            if self.checker:
+                self.wrong.extend(checked.faults_of(self.checker, self.place.store, logs, self.place.events))
             self.before = [self.last_of(lane) for lane in range(self.lanes)]
             self.check_events()
         except (Wrong, store.Damaged, OSError) as fault:
@@ -483,7 +501,7 @@ def record_of(rng: random.Random) -> Record:
 
 def main() -> int:
     """Kills the server as often as asked for."""
-    words = argparse.ArgumentParser(description=__doc__)
+    words = argparse.ArgumentParser(description=__doc__, formatter_class=argparse.RawDescriptionHelpFormatter)
     words.add_argument("--server", required=True)
     words.add_argument("--as", dest="kind", choices=["serve", "once"], default="serve")
     words.add_argument("--lanes", type=int, default=1)
@@ -491,6 +509,8 @@ def main() -> int:
     words.add_argument("--clients", type=int, default=6)
     words.add_argument("--seed", type=int, default=int(time.time()))
     words.add_argument("--folder", help="where the store is made, by default a temporary folder")
+    words.add_argument("--check", help="sudo_logcheck, which reads the store after each kill too")
+    words.add_argument("--most", type=float, default=900.0, help="seconds in which all kinds must have been tried")
     words.add_argument("--fault")
     words.add_argument("--power", choices=list(power.KINDS))
     args = words.parse_args()
@@ -503,13 +523,15 @@ def main() -> int:
         print(f"drill.py: {fault}")
         return 3
     signal.signal(signal.SIGTERM, lambda *_: stopped.append(True))
-    while (kills < args.kills or drill.lacks() and kills < 10 * args.kills) and not drill.wrong and not stopped:
-        drill.life(drill.rng.choice([0.01, 0.05, 0.15, 0.3]) * (0.5 + drill.rng.random()))
+    ends = time.monotonic() + args.most
+    while (kills < args.kills or drill.lacks() and time.monotonic() < ends) and not drill.wrong and not stopped:
+        longer = min(1.2 ** max(0, kills - args.kills), 100)
+        drill.life(longer * drill.rng.choice([0.01, 0.05, 0.15, 0.3]) * (0.5 + drill.rng.random()))
         kills += 1
     if not drill.wrong:
         drill.check(whole=True)
     if drill.lacks() and not drill.wrong and not stopped:
-        drill.wrong.append(f"nothing was tried of: {', '.join(drill.lacks())}")
+        drill.wrong.append(f"nothing was tried of: {', '.join(drill.lacks())}, in {args.most:.0f} s")
     for fault in drill.wrong:
         print(f"drill.py: {fault}")
     print(f"drill.py: {kills} kills{' until it was ended' * bool(stopped)}, " + ", ".join(f"{number} {what}" for what,

@@ -11,6 +11,7 @@ ends with 1 if something differs.
 """
 from __future__ import annotations
 
+import argparse
 import json
 import os
 import random
@@ -23,6 +24,7 @@ import time
 from collections.abc import Iterator, Sequence
 from typing import Any
 
+import at_root
 import replay
 from oracle import lines, store
 from oracle.records import SECOND, Record
@@ -193,8 +195,11 @@ class Trial:
 
 def main() -> int:
     """Exports a store, and compares."""
-    program = os.path.realpath(sys.argv[1]) if len(sys.argv) > 1 else None
-    trial = Trial(program, sys.argv[2] if len(sys.argv) > 2 else "/usr/bin/sudoreplay")
+    words = argparse.ArgumentParser(description=__doc__, formatter_class=argparse.RawDescriptionHelpFormatter)
+    words.add_argument("program", nargs="?", type=os.path.realpath)
+    words.add_argument("peer", nargs="?", default="/usr/bin/sudoreplay")
+    args = words.parse_args()
+    trial = Trial(args.program, args.peer)
     trial.write()
     trial.same("export", (run(EXPORT, "-d", trial.store, "-o", trial.out).returncode), 0)
     trial.played()

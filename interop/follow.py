@@ -9,6 +9,10 @@ A client of ours sends records one by one, and waits for the commit point of eac
 - The server is killed in the midst and started again, and the client resumes at its last commit point: the follower
   goes on.
 - The client resumes at an earlier point, so that a record is dropped: the follower ends with 7, `log resumed`.
+- Once all is shown a record comes whose delay is 20 s: without `-m 0` it is shown at once too.
+- The session's folder is moved away while it is followed: the follower ends with 8, `log removed`.
+- A session is played, and its client resumes it meanwhile, so that records are dropped: what is shown is from before,
+  and the player ends with 7.
 - sudo's own `sudoreplay -F` beside sudo's own server, if Debian's package sudo is there: the same bytes.
 
 It prints the least, the middle and the greatest time from the start of a follower to its first bytes, and from the
@@ -28,6 +32,7 @@ from collections.abc import Sequence
 
 import client
 import servers
+from oracle.connection import PATIENCE
 
 SECOND = 10**9
 INFO = {
@@ -102,11 +107,11 @@ class Session:
             raise Differs(f"{got} {content!r} for {name}")
         return content
 
-    def record(self, data: bytes) -> float:
+    def record(self, data: bytes, delay: int = 1_000_000) -> float:
         """Sends a record and waits for its commit point; gives that moment."""
-        self.elapsed += 1_000_000
+        self.elapsed += delay
         self.sent.append(data)
-        self.link.send(client.record((1_000_000, "ttyout", data)))
+        self.link.send(client.record((delay, "ttyout", data)))
         if self.waits:
             self.points.append(self.expect("commit_point"))
         return time.monotonic()
@@ -118,6 +123,20 @@ class Session:
         self.link.send(client.hello(), client.restart(self.digits, self.points[kept]))
         del self.sent[kept:], self.points[kept + 1:]
         self.elapsed = self.points[kept]
+
+    def resume_with(self, kept: int, data: bytes) -> None:
+        """The same with a record, once the server has seen that the connection before is gone."""
+        end = time.monotonic() + PATIENCE
+        while True:
+            self.resume(kept)
+            try:
+                self.record(data)
+                return
+            except Differs as fault:
+                self.link.close()
+                if "log in use" not in str(fault) or time.monotonic() > end:
+                    raise
+            time.sleep(0.01)
 
     def exit(self) -> None:
         """Ends it."""
@@ -150,9 +169,9 @@ class Trial:
         """Keeps a time."""
         self.times.setdefault(what, []).append(1000 * seconds)
 
-    def follower(self, place: servers.Place, digits: str) -> Follower:
-        """A follower that shows each record at once."""
-        return Follower(self.replay, "-F", "-m", "0", "-d", place.store, digits)
+    def follower(self, place: servers.Place, digits: str, *words: str) -> Follower:
+        """A follower; without words one that shows each record at once."""
+        return Follower(self.replay, "-F", *(words or ("-m", "0")), "-d", place.store, digits)
 
     def part_whole(self) -> None:
         """A session is followed to its exit, and followers that begin later show all of it."""
@@ -206,14 +225,68 @@ class Trial:
         """The client resumes before a record that was shown."""
         place, server, session, follower = self.killed()
         before = b"".join(session.sent)
-        session.resume(2)
-        session.record(b"another\r\n")
+        session.resume_with(2, b"another\r\n")
         status, shown, said = follower.end()
         same(f"a session that was cut: {said}", (status, shown, "log resumed" in said), (7, before, True))
         again = self.follower(place, session.digits)
         again.wait_for(len(b"".join(session.sent)))
         session.exit()
         same("a session that is followed again", again.end(), (0, b"".join(session.sent), ""))
+        server.stop()
+
+    def part_live(self) -> None:
+        """A record comes after a long pause, to a follower that waits as the user did."""
+        place = servers.Place()
+        server = servers.Serve(self.program, place).start()
+        session = Session(server)
+        session.record(text_of(0))
+        follower = self.follower(place, session.digits, "-s", "1")
+        follower.wait_for(len(b"".join(session.sent)))
+        # so that a look has found nothing
+        time.sleep(0.5)
+        committed = session.record(text_of(1), 20 * SECOND)
+        self.took("each record", follower.wait_for(len(b"".join(session.sent)), 10) - committed)
+        session.exit()
+        same("a session after a pause", follower.end(), (0, b"".join(session.sent), ""))
+        server.stop()
+
+    def part_removed(self) -> None:
+        """The session's folder is moved away while it is followed, as a prune does with one that is complete."""
+        place = servers.Place()
+        server = servers.Serve(self.program, place).start()
+        session = Session(server)
+        session.record(text_of(0))
+        follower = self.follower(place, session.digits)
+        follower.wait_for(len(b"".join(session.sent)))
+        digits = session.digits
+        folder = os.path.join(place.store, digits[:2], digits[2:4], digits[4:])
+        os.rename(folder, os.path.join(place.folder, "removed"))
+        status, shown, said = follower.end()
+        same(f"a session that was removed: {said}", (status, shown, "log removed" in said),
+            (8, b"".join(session.sent), True))
+        session.link.close()
+        server.stop()
+
+    def part_played(self) -> None:
+        """The client resumes a session while it is played. Its records are larger than one read of the player."""
+        place = servers.Place()
+        server = servers.Serve(self.program, place).start()
+        session = Session(server)
+        for letter in b"ABCDEFGH":
+            session.record(bytes([letter]) * 30_000)
+        before = b"".join(session.sent)
+        player = Follower(self.replay, "-s", "0.005", "-d", place.store, session.digits)
+        player.wait_for(1)
+        session.link.close()
+        session.resume_with(2, b"z" * 20_000)
+        for letter in b"yxwvu":
+            session.record(bytes([letter]) * 20_000)
+        status, shown, said = player.end()
+        same(f"a session that was cut while it was played: {said}",
+            (status, before.startswith(shown), "log resumed" in said), (7, True, True))
+        session.exit()
+        again = Follower(self.replay, "-m", "0", "-d", place.store, session.digits)
+        same("a session that is played again", again.end(), (0, b"".join(session.sent), ""))
         server.stop()
 
     def part_sudo(self) -> None:
@@ -258,14 +331,15 @@ class Trial:
 
 def main(words: Sequence[str]) -> int:
     """Tries all parts."""
-    parser = argparse.ArgumentParser()
+    parser = argparse.ArgumentParser(description=__doc__, formatter_class=argparse.RawDescriptionHelpFormatter)
     parser.add_argument("--server", required=True)
     parser.add_argument("--replay", required=True)
     parser.add_argument("--tries", type=int, default=5)
     given = parser.parse_args(words)
     trial = Trial(os.path.realpath(given.server), os.path.realpath(given.replay), given.tries)
     bad = 0
-    for part in (trial.part_whole, trial.part_goes_on, trial.part_resumed, trial.part_sudo):
+    for part in (trial.part_whole, trial.part_goes_on, trial.part_resumed, trial.part_live, trial.part_removed,
+        trial.part_played, trial.part_sudo):
         try:
             part()
         except (Differs, servers.Failed, TimeoutError) as fault:

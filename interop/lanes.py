@@ -24,7 +24,8 @@ from collections.abc import Callable
 import client
 import servers
 import store
-from guards import ACCEPT, MARK, SECOND, Guarded, session
+from guards import ACCEPT, MARK, SECOND, Guarded, session, session_in_turn
+from oracle.connection import PATIENCE
 from trial import Differs, same
 
 LANES = 4
@@ -51,18 +52,18 @@ def asks_for(on: Guarded, lanes: int) -> None:
 def at_once(on: Guarded, count: int) -> list[str]:
     """This many whole sessions, eight at a time."""
     with concurrent.futures.ThreadPoolExecutor(8) as pool:
-        return list(pool.map(lambda _: session(on.server.connect()), range(count)))
+        return list(pool.map(lambda _: session_in_turn(on.server), range(count)))
 
 
 def played(replay: str, on: Guarded, digits: str) -> bytes:
     """What a log shows."""
     words = [replay, "-d", on.store, "-m", "0", digits]
-    return subprocess.run(words, capture_output=True, check=True, timeout=60).stdout
+    return subprocess.run(words, capture_output=True, check=True, timeout=PATIENCE).stdout
 
 
 def listed(replay: str, on: Guarded) -> list[str]:
     """The identifiers that a listing has, in its order."""
-    done = subprocess.run([replay, "-d", on.store, "-l"], capture_output=True, text=True, check=True, timeout=60)
+    done = subprocess.run([replay, "-d", on.store, "-l"], capture_output=True, text=True, check=True, timeout=PATIENCE)
     same("what is said of the listing", done.stderr, "")
     return re.findall(r"TSID=(\w+)", done.stdout)
 
@@ -133,16 +134,19 @@ def part_resumed_in_its_lane(program: str, _: str) -> None:
                 pass
             link.close()
             # the server ends the first connection before the log can be resumed
-            for _ in range(100):
+            end = time.monotonic() + PATIENCE
+            while True:
                 link = on.server.connect()
                 link.send(client.hello(), client.restart(digits, 5), client.record((6, "ttyout", MARK)),
                     client.exited(SECOND))
                 heard = link.rest()
                 link.close()
-                if heard[-1:] != [("error", "log in use")]:
+                if heard[-1:] != [("error", "log in use")] or time.monotonic() > end:
                     break
                 time.sleep(0.02)
-            same(f"answers to the restart of {digits}", heard, [heard[0], ("commit_point", 11)])
+            # a turn that ends between the record and the exit has a commit point of its own
+            same(f"answers to the restart of {digits}", list(dict.fromkeys(map(str, heard))), [str(heard[0]),
+                str(("commit_point", 11))])
             same(f"records of {digits}", store.read_log(on.store, digits).records, [(5, "ttyout", MARK), (6,
                 "ttyout", MARK)])
             same(f"exits of {digits}", events_of(on, lane_of(digits)).count(("exit", digits)), 1)
@@ -165,7 +169,8 @@ def part_another_number(program: str, _: str) -> None:
             if made > 1:
                 before = on.contents()
                 words = [program, "once", "-f", on.place.conf]
-                done = subprocess.run(words, stdin=subprocess.DEVNULL, capture_output=True, check=False, timeout=60)
+                done = subprocess.run(words, stdin=subprocess.DEVNULL, capture_output=True, check=False,
+                    timeout=PATIENCE)
                 same("the status of once", (done.returncode, b"--lanes" in done.stderr), (4, True))
                 same("the store after once", on.contents(), before)
             asks_for(on, made)
@@ -183,6 +188,143 @@ def part_further_event_log_in_use(program: str, _: str) -> None:
         said = on.ended(on.place.conf, 4)
         same(f"what is said names it: {said!r}", f"{on.events}.1" in said, True)
         same("the other program's lines", store.contents(on.events + ".1"), foreign)
+
+
+def numbers_of_lane(on: Guarded, lane: int) -> str:
+    """The number file of a lane."""
+    return on.numbers() + (f".{lane}" if lane else "")
+
+
+def part_number_file_of_one_lane(program: str, replay: str) -> None:
+    """The number file of any lane is lost, cut, older, noise or another lane's: the store is refused by the name of
+    that file, once. With the file put back it goes on. A listing names it too, and so does the relay."""
+    with several(program) as on:
+        on.start()
+        given = at_once(on, 16)
+        on.stop()
+        same("lanes that were used", {lane_of(digits) for digits in given}, set(range(LANES)))
+        older = {lane: store.contents(numbers_of_lane(on, lane)) for lane in range(LANES)}
+        on.server.start()
+        given += at_once(on, 16)
+        on.stop()
+        same("the listing", listed(replay, on), sorted(given))
+        for lane in range(LANES):
+            path, told = numbers_of_lane(on, lane), "it has no entry, and the store holds logs of its numbers"
+            whole = store.contents(path)
+            others = store.contents(numbers_of_lane(on, (lane + 1) % LANES))
+            ways = [(None, told), (b"", told), (whole[:5], told), (older[lane], "its last number is"),
+                (others, "it is damaged"), (whole[:2] + b"\x08\x09\x0a\x0b" * 8, "it is damaged")]
+            for data, words in ways if lane in (0, 1) else ways[:1] + ways[3:4]:
+                put(path, data)
+                said = on.refused(f"{path}: {words}")
+                same(f"how often {path} is named in {said!r}", said.count(path + ":"), 1)
+                says_of(replay, on, path)
+                put(path, whole)
+        on.server.start()
+        given += at_once(on, 8)
+        same("numbers", len(set(given)), 40)
+
+
+def put(path: str, data: bytes | None) -> None:
+    """Gives a file these bytes, or removes it."""
+    if data is None:
+        os.remove(path)
+        return
+    with open(path, "wb") as file:
+        file.write(data)
+
+
+def says_of(replay: str, on: Guarded, path: str) -> None:
+    """A listing and the relay name a number file, and the relay sends nothing."""
+    done = subprocess.run([replay, "-d", on.store, "-l"], capture_output=True, text=True, check=False, timeout=PATIENCE)
+    same(f"how often the listing names {path} in {done.stderr!r}", done.stderr.count(path + ":"), 1)
+    words = [on.program, "relay", "-f", relay_of(on)]
+    done = subprocess.run(words, stdin=subprocess.DEVNULL, capture_output=True, text=True, check=False,
+        timeout=PATIENCE)
+    found = (done.returncode, done.stderr.count(path + ":"))
+    same(f"how the relay ends, and names {path} in {done.stderr!r}", found, (4, 1))
+
+
+def relay_of(on: Guarded) -> str:
+    """Settings by which the store is relayed to nobody."""
+    path = os.path.join(on.place.folder, "relay.conf")
+    with open(on.place.conf, encoding="utf-8") as file:
+        text = file.read()
+    with open(path, "w", encoding="utf-8") as file:
+        file.write(text + "\n[relay]\nrelay_host = 127.0.0.1:1\nstore_first = true\n")
+    return path
+
+
+def part_event_files_of_one_lane(program: str, _: str) -> None:
+    """A file of one lane's event log is lost or cut: the store is refused by that file's name, once, and what the line
+    says mends it."""
+    for lane in (0, 2):
+        for journal, data in ((False, None), (False, b"x" * 9 + b"\n"), (True, None)):
+            with several(program) as on:
+                on.start()
+                given = at_once(on, 16)
+                on.stop()
+                path = on.events + (f".{lane}" if lane else "")
+                lost, other = (path + ".slots", path) if journal else (path, path + ".slots")
+                put(lost, data)
+                words = "it has lines, and no journal" if journal else "it is absent or shorter than its journal"
+                said = on.refused(f"{path}: {words}")
+                same(f"lines in {said!r}", said.count(f"{path}"), 2)
+                same(f"what follows in {said!r}", said.splitlines()[1:], ["sudo_logsrvd: store"])
+                os.remove(other)
+                if os.path.exists(lost):
+                    os.remove(lost)
+                on.server.start()
+                given += at_once(on, 8)
+                same("numbers", len(set(given)), 24)
+
+
+def part_refused_server_changes_nothing(program: str, _: str) -> None:
+    """The event log of a further lane is another server's, which writes it: the second server ends, and changes
+    nothing."""
+    with several(program, 1) as on:
+        on.place.events += ".1"
+        with open(on.place.conf, encoding="utf-8") as file:
+            text = file.read()
+        with open(on.place.conf, "w", encoding="utf-8") as file:
+            file.write(text.replace("/events", "/events.1"))
+        on.start().sessions(2)
+        with open(on.events, "ab") as file:
+            file.write(b"a line that the first server has written and not counted yet\n")
+        before, names = on.contents(), sorted(os.listdir(on.place.folder))
+        second = on.settings("second", store=on.place.folder + "/other")
+        with open(second, encoding="utf-8") as file:
+            text = file.read()
+        with open(second, "w", encoding="utf-8") as file:
+            file.write(text.replace("/events.1", "/events"))
+        names = sorted([*names, "second"])
+        asks_for(on, 2)
+        said = on.ended(second, 4)
+        if f"{on.events}: lock: another server uses this event log" not in said:
+            raise Differs(said)
+        same("files", (on.contents(), sorted(os.listdir(on.place.folder))), (before, names))
+
+
+def part_last_number_far_above(program: str, replay: str) -> None:
+    """A last number far above the newest log is said at the start and before a listing."""
+    with several(program) as on:
+        on.start()
+        given = at_once(on, 8)
+        on.stop()
+        path = numbers_of_lane(on, 1)
+        whole = store.contents(path)
+        last = store.numbers(on.store, 1)[0].to_bytes(4, "big")
+        far = 4 * 268_000_000 + 2
+        put(path, whole.replace(last, far.to_bytes(4, "big")))
+        words = f"{path}: warning: its last number is {store.digits_of(far)}, and the newest log is {max(given)}"
+        on.server.start()
+        if words not in on.place.said():
+            raise Differs(on.place.said())
+        # no number without a folder is looked for
+        done = subprocess.run([replay, "-d", on.store, "-l"], capture_output=True, text=True, check=False,
+            timeout=PATIENCE)
+        same(f"whether the listing says {done.stderr!r}", words in done.stderr, True)
+        same("the listing", re.findall(r"TSID=(\w+)", done.stdout), sorted(given))
 
 
 def processor_seconds(pid: int) -> float:
@@ -214,7 +356,7 @@ def part_idle(program: str, _: str) -> None:
             time.sleep(1)
             pid = on.server.process.pid
             slept, before, began = sleeps(pid), processor_seconds(pid), time.monotonic()
-            time.sleep(20)
+            time.sleep(5)
             seconds = time.monotonic() - began
             part = (processor_seconds(pid) - before) / seconds
             rate = (sleeps(pid) - slept) / seconds
@@ -226,43 +368,43 @@ def part_idle(program: str, _: str) -> None:
                 raise Differs(f"with {lanes} lanes the threads of an idle server go to sleep {rate:.0f} times a second")
 
 
-def as_nobody(threads: int) -> Callable[[], None]:
-    """Becomes nobody, who may have this number of threads."""
+def as_user(user: int, threads: int) -> Callable[[], None]:
+    """Becomes a user, who may have this number of threads."""
     def before() -> None:
         """Is done in the process before it becomes the server."""
         os.setgid(NOBODY)
         os.setgroups([])
-        os.setuid(NOBODY)
+        os.setuid(user)
         resource.setrlimit(resource.RLIMIT_NPROC, (threads, threads))
     return before
 
 
-def threads_of_nobody() -> int:
-    """How many threads nobody has."""
-    count = 0
+def unused_user() -> int:
+    """A user who has no process, so that nobody else's threads count for its limit."""
+    used = set()
     for pid in filter(str.isdigit, os.listdir("/proc")):
         try:
-            if os.stat(f"/proc/{pid}").st_uid == NOBODY:
-                count += len(os.listdir(f"/proc/{pid}/task"))
+            used.add(os.stat(f"/proc/{pid}").st_uid)
         except OSError:
             pass
-    return count
+    return next(user for user in range(61_000 + os.getpid() % 3_000, 65_000) if user not in used)
 
 
 def part_threads_are_refused(program: str, replay: str) -> None:
     """Where the system refuses some or all threads, all sessions are served nevertheless."""
     if os.getuid() != 0:
-        print("lanes.py: refused threads are skipped: only root may become nobody")
+        print("lanes.py: refused threads are skipped: only root may become another user")
         return
     for more in (1, 2, 3, 5):
         folder = tempfile.mkdtemp(prefix="lanes")
         os.chmod(folder, 0o755)
         copy = shutil.copy(program, folder)
         place = servers.Place(parent=folder)
-        os.chown(place.folder, NOBODY, NOBODY)
-        os.chown(place.conf, NOBODY, NOBODY)
+        user = unused_user()
+        os.chown(place.folder, user, NOBODY)
+        os.chown(place.conf, user, NOBODY)
         server = servers.Serve(copy, place, ["--lanes", str(LANES)])
-        server.before = as_nobody(threads_of_nobody() + more)
+        server.before = as_user(user, more)
         server.start()
         try:
             threads = len(os.listdir(f"/proc/{server.process.pid}/task"))
@@ -273,7 +415,7 @@ def part_threads_are_refused(program: str, replay: str) -> None:
         finally:
             server.kill()
         words = [replay, "-d", place.store, "-l"]
-        found = subprocess.run(words, capture_output=True, text=True, check=True, timeout=60)
+        found = subprocess.run(words, capture_output=True, text=True, check=True, timeout=PATIENCE)
         same(f"the listing with {threads} threads", len(re.findall(r"TSID=(\w+)", found.stdout)), 16)
         shutil.rmtree(folder)
 
@@ -292,7 +434,7 @@ def part_few_descriptors(program: str, _: str) -> None:
             on.server.before = limit(count)
             told = len(on.place.said()) if os.path.exists(on.place.errors) else 0
             on.server.start()
-            at_once(on, 24)
+            at_once(on, 8)
             on.stop()
             said = on.place.said()[told:]
             same(f"faults with {count}: {said!r}", "Too many" in said, False)
@@ -308,7 +450,7 @@ def part_numbers_made_by_hand(program: str, _: str) -> None:
         for name in os.listdir(on.store):
             if name.startswith("seq2"):
                 os.remove(os.path.join(on.store, name))
-        on.refused("it holds logs")
+        on.refused("the store holds logs")
         run(block("Making seq2 by hand", "lanes=").replace("lanes=1", f"lanes={LANES}", 1), {"DIR": on.store})
         on.server.start()
         again = at_once(on, 11)
@@ -321,7 +463,7 @@ def part_stops_after(program: str, _: str) -> None:
         on.server.further += ["--stop-after", "12"]
         on.start()
         given = at_once(on, 12)
-        same("the status", on.server.process.wait(30), 0)
+        same("the status", on.server.process.wait(PATIENCE), 0)
         same("numbers", len(set(given)), 12)
         on.server.process = None
 

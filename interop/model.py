@@ -12,6 +12,7 @@ It syncs nothing, so it promises nothing over a power cut. A fault makes it wron
 """
 from __future__ import annotations
 
+import argparse
 import fcntl
 import os
 import selectors
@@ -21,6 +22,7 @@ import time
 from collections.abc import Callable, Sequence
 from typing import Any
 
+import at_root
 import client
 import store
 from oracle import lines, messages, wire
@@ -417,14 +419,18 @@ def main() -> None:
     while os.open("/dev/null", os.O_RDWR) < 3:
         pass
     os.umask(0o077)
-    words = sys.argv[1:]
-    value = {word: words[at + 1] for at, word in enumerate(words[:-1])}
-    settings = Settings(value["-f"])
+    words = argparse.ArgumentParser(description=__doc__, formatter_class=argparse.RawDescriptionHelpFormatter)
+    words.add_argument("command", choices=("once", "serve"))
+    words.add_argument("-f", dest="conf", required=True)
+    words.add_argument("--stop-after", type=int, default=2**63)
+    words.add_argument("--fault")
+    args = words.parse_args()
+    settings = Settings(args.conf)
     if not locked(settings.folder):
         report("another server uses this store")
         sys.exit(4)
-    server = Server(settings, value.get("--fault"))
-    sys.exit((once if words[0] == "once" else serve)(server, int(value.get("--stop-after", 2**63))))
+    server = Server(settings, args.fault)
+    sys.exit((once if args.command == "once" else serve)(server, args.stop_after))
 
 
 if __name__ == "__main__":

@@ -1,9 +1,9 @@
 #!/usr/bin/env python3
 """Reads the manual pages against the programs: the same commands, options, settings, defaults, statuses and messages.
 
-usage: pages.py PROGRAM REPLAY [SENDLOG]
+usage: pages.py PROGRAM REPLAY [SENDLOG [LOGCHECK]]
 
-PROGRAM is sudo_logsrvd, REPLAY sudoreplay, SENDLOG sudo_sendlog.
+PROGRAM is sudo_logsrvd, REPLAY sudoreplay, SENDLOG sudo_sendlog, LOGCHECK sudo_logcheck.
 Each option that a page shows must be taken, and no other letter; each
 setting of sudo_logsrvd.conf(5) must be known with its default, and each key that the page says is passed over must
 be reported as that. The sample in etc/ must hold each setting with its default. The numbers and texts of the
@@ -11,6 +11,7 @@ statuses, and the texts that a client gets, are compared with the sources. It en
 """
 from __future__ import annotations
 
+import argparse
 import os
 import re
 import string
@@ -39,10 +40,11 @@ def sections(page: str) -> dict[str, str]:
 class Pages:
     """The programs whose pages are read, and how often they were asked and differed."""
 
-    def __init__(self, program: str, replay: str, sendlog: str | None = None) -> None:
+    def __init__(self, program: str, replay: str, sendlog: str | None = None, logcheck: str | None = None) -> None:
         """Nothing was asked yet."""
         self.program, self.replay = os.path.realpath(program), os.path.realpath(replay)
         self.sendlog = sendlog and os.path.realpath(sendlog)
+        self.logcheck = logcheck and os.path.realpath(logcheck)
         self.folder = tempfile.mkdtemp()
         self.asked = self.differ = 0
         self.unknown: set[str] | None = None
@@ -59,7 +61,7 @@ class Pages:
     def run(self, program: str, *words: str) -> subprocess.CompletedProcess[bytes]:
         """Runs a program in the temporary folder."""
         return subprocess.run([program, *words], stdin=subprocess.DEVNULL, capture_output=True, cwd=self.folder,
-            check=False, timeout=60)
+            check=False, timeout=180)
 
     def read(self, settings: str) -> tuple[list[str], int]:
         """What the server says of settings, line by line, and how it ends."""
@@ -89,13 +91,13 @@ class Pages:
             file.write("wrong\n")
         page = sections("man/sudo_logsrvd.8")["DESCRIPTION"]
         shown = set(re.findall(r"^\.It Cm (\w+)$", page, flags=re.M))
-        taken = {word for word in ("once", "serve", "relay", "load",
+        taken = {word for word in ("once", "serve", "relay", "load", "check",
             "send") if 3 in [self.run(self.program, word, "-f", "wrong", *behind).returncode for behind in ([], ["1"])]}
         self.same("commands", taken, shown)
         taken_commands = taken
         shown = set(re.findall(r"^\.It Fl (\S+)", page, flags=re.M))
-        letters = list(string.ascii_letters + string.digits) + ["-" + name for name in ("lanes", "stop-after", "help",
-            "version", "conf", "count")]
+        letters = list(string.ascii_letters + string.digits)
+        letters += ["-" + name for name in ("lanes", "workers", "stop-after", "help", "version", "conf", "count")]
         taken = set()
         for letter in letters:
             for command in sorted(taken_commands):
@@ -127,6 +129,24 @@ class Pages:
         self.same("reason of a usage error of sudo_sendlog", reason.split("--none")[0], "sudo_sendlog: ")
         self.same("the form of sudo_sendlog", sorted(re.findall(r"(?<!\w)-(\w)", form)),
             sorted(re.findall(r"Fl (\S+)", sections("man/sudo_sendlog.8")["SYNOPSIS"])))
+
+    def check(self) -> None:
+        """The options of sudo_logcheck, on a store without a log, and its form."""
+        if not self.logcheck:
+            return
+        page = sections("man/sudo_logcheck.8")
+        shown = set(re.findall(r"^\.It Fl (\S+)", page["DESCRIPTION"], flags=re.M))
+        taken = set()
+        for letter in [*string.ascii_letters, *string.digits, "-json", "-digest", "-help", "-version", "-seal"]:
+            front = [] if letter == "d" else ["-d", "empty"]
+            for value in ([], ["empty"]):
+                if self.run(self.logcheck, *front, "-" + letter, *value).returncode != 2:
+                    taken.add(letter)
+        self.same("options of sudo_logcheck", sorted(taken), sorted(shown))
+        reason, _, form = self.run(self.logcheck, "--none").stderr.decode().splitlines()
+        self.same("reason of a usage error of sudo_logcheck", reason.split("--none")[0], "sudo_logcheck: ")
+        self.same("the form of sudo_logcheck", sorted(re.findall(r"(?<!\w)-(-?\w+)", form)),
+            sorted(re.findall(r"Fl (\S+)", page["SYNOPSIS"])))
 
     def script(self) -> None:
         """The options of sudo-layout, as of the programs."""
@@ -198,7 +218,8 @@ class Pages:
         """A known key isn't reported as passed over, whatever its value."""
         wanted = f"{section} {key}"
         if self.unknown is None:
-            lines = [f"[{s}]\n{k} = on" for s, k in self.candidates()]
+            # a server that relays to itself is refused as a whole
+            lines = [f"[{s}]\n{k} = {'elsewhere' if k == 'relay_host' else 'on'}" for s, k in self.candidates()]
             self.unknown = self.passed_over(lines)
         return wanted not in self.unknown
 
@@ -225,8 +246,10 @@ class Pages:
             flags=re.M) if not key.startswith("tls_")] + ["tls_cert"]
         for key in keys:
             said, status = self.read(f"[server]\n{key} = x\n{self.places}")
-            self.same(f"passed over {key}", (said, status),
-                ([f"sudo_logsrvd: {self.conf}:2: warning: {key} is passed over"], 0))
+            front = f"sudo_logsrvd: {self.conf}:2: warning: {key} is passed over: "
+            why = said[0].removeprefix(front) if len(said) == 1 and said[0].startswith(front) else said
+            has_reason = isinstance(why, str) and "no such key" not in why
+            self.same(f"passed over {key}, with a reason of its own", (has_reason, status), (True, 0))
 
     def refused(self) -> None:
         """The reasons of refused lines are those of the page."""
@@ -251,14 +274,15 @@ class Pages:
         """Numbers and texts of the statuses, as the sources have them, and texts that a client gets."""
         for page, source in (("man/sudo_logsrvd.8", "crates/lsv_serve/src/status.rt"),
             ("man/sudoreplay.8", "crates/lsv_replay/src/status.rt"),
-            ("man/sudo_sendlog.8", "crates/lsv_send/src/status.rt")):
+            ("man/sudo_sendlog.8", "crates/lsv_send/src/status.rt"),
+            ("man/sudo_logcheck.8", "crates/lsv_verdict/src/status.rt")):
             code = text_of(source)
             numbers = dict(re.findall(r"\w*Status::(\w+)(?:\(_\))? => (\d+),", code))
             texts = dict(re.findall(r'\w*Status::(\w+)(?:\(_\))? => (?:Bytes::of\(alloc, b)?"([a-z ]+)"', code))
             wanted = sorted((number, texts.get(name)) for name, number in numbers.items())
             shown = re.findall(r"^\.It (\d+)\n(?:\.Sy ([a-z ]+?)(?: n)? ?[.:]$)?", sections(page)["EXIT STATUS"],
                 flags=re.M)
-            self.same(f"statuses of {page}", sorted(number for number, _ in shown), sorted(numbers.values()))
+            self.same(f"statuses of {page}", sorted(number for number, _ in shown), sorted(set(numbers.values())))
             named = {number: text for number, text in shown if text}
             self.same(f"texts of {page}", {number: named.get(number) for number, text in wanted if text},
                 {number: text for number, text in wanted if text})
@@ -280,8 +304,14 @@ class Pages:
 
 def main() -> int:
     """Reads all pages."""
-    pages = Pages(*sys.argv[1:4])
-    for step in (pages.options, pages.sender, pages.script, pages.forms, pages.settings, pages.passed,
+    words = argparse.ArgumentParser(description=__doc__, formatter_class=argparse.RawDescriptionHelpFormatter)
+    words.add_argument("program")
+    words.add_argument("replay")
+    words.add_argument("sendlog", nargs="?")
+    words.add_argument("logcheck", nargs="?")
+    args = words.parse_args()
+    pages = Pages(args.program, args.replay, args.sendlog, args.logcheck)
+    for step in (pages.options, pages.sender, pages.check, pages.script, pages.forms, pages.settings, pages.passed,
         pages.refused, pages.statuses, pages.sudoreplays):
         step()
     print(f"{pages.asked} asked, {pages.differ} differ")

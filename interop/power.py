@@ -45,7 +45,7 @@ def run(*words: str) -> tuple[int, str]:
     """Runs a program of the system. Gives its status, and what it said."""
     env = {**os.environ, "PATH": os.environ.get("PATH", "") + ":/usr/sbin:/sbin"}
     try:
-        child = subprocess.run(words, capture_output=True, text=True, timeout=120, env=env)
+        child = subprocess.run(words, capture_output=True, text=True, timeout=600, env=env)
     except FileNotFoundError as fault:
         raise Lacking(f"{words[0]} isn't there") from fault
     return child.returncode, child.stdout + child.stderr
@@ -139,13 +139,15 @@ class Disk:
 
     def unmount(self) -> None:
         """Unmounts the image, once nobody uses it."""
-        for _ in range(100):
+        end = time.monotonic() + 180
+        while True:
             status, said = run("umount", self.mounted)
             if status == 0:
                 self.is_mounted = False
                 return
+            if time.monotonic() > end:
+                raise Failed(f"umount: {said}")
             time.sleep(0.05)
-        raise Failed(f"umount: {said}")
 
     def end(self) -> None:
         """Nothing stays of it."""

@@ -12,6 +12,7 @@ from collections.abc import Callable
 import client
 import servers
 import store
+from oracle.connection import PATIENCE
 from protocol_parts import ACCEPT, INFO, whole
 from trial import SECOND, Differs, Trial, only, same
 
@@ -36,8 +37,10 @@ class Fresh:
         self.server.start()
         return self
 
-    def __exit__(self, *_: object) -> None:
+    def __exit__(self, kind: object, *_: object) -> None:
         """Ends it, and nothing stays."""
+        if kind:
+            print(f"a server of its own, where what follows was found: {self.server.seen()}", flush=True)
         self.server.kill()
         shutil.rmtree(self.place.folder)
 
@@ -229,7 +232,7 @@ def part_second_server(trial: Trial) -> None:
         with open(path, "w", encoding="utf-8") as file:
             file.write(text)
         child = subprocess.run([trial.program, "serve", "-f", path], stdin=subprocess.DEVNULL, capture_output=True,
-            timeout=20, check=False)
+            timeout=PATIENCE, check=False)
         same(f"status, {child.stderr}", child.returncode, 4)
         fresh.session()
 
@@ -241,6 +244,6 @@ def part_stop_after(trial: Trial) -> None:
     server = servers.Serve(trial.program, place, ["--stop-after", "3"]).start()
     for _ in range(3):
         whole(server.connect(), SECOND, INFO, [(5, "ttyout", b"abc")])
-    same("status", server.process.wait(20), 0)
+    same("status", server.process.wait(PATIENCE), 0)
     same("logs", store.folders(place.store), ["000001", "000002", "000003"])
     shutil.rmtree(place.folder)

@@ -4,11 +4,13 @@ once.
 from __future__ import annotations
 
 import random
+import time
 from collections.abc import Sequence
 
+import at_root
 import client
 import store
-from oracle.connection import Connection
+from oracle.connection import PATIENCE, Connection
 from oracle.messages import Info
 from oracle.records import Record, cut_at, elapsed
 from trial import SECOND, Differs, Trial, only, same
@@ -72,7 +74,7 @@ ERRORS = [
 def part_errors(trial: Trial) -> None:
     """Each error comes as the last message, and the connection ends."""
     for text, sent in ERRORS:
-        link = trial.direct(timeout=5)
+        link = trial.direct()
         link.send(*sent)
         try:
             heard = link.rest()
@@ -127,6 +129,21 @@ def part_limits(trial: Trial) -> None:
     same("records of the greatest size", len(records), 3)
     whole(trial.connect(), SECOND, INFO, records)
     compared(trial)
+
+
+@only("serve", "once")
+def part_many_values(trial: Trial) -> None:
+    """One list of 2,000,000 numbers, and 300,000 entries: the server stores the session, and its stack is enough."""
+    numbers = client.field(2, client.field(1, "list") + client.field(5, client.field(1, bytes(2_000_000))))
+    entries = client.field(2, client.field(1, "") + client.field(3, "")) * 300_000
+    for values in (numbers, entries):
+        link = trial.direct(5 * PATIENCE)
+        link.send(client.hello(), message("accept", time_of(1, 0), keys(), values, client.scalar(3, True)), OUTPUT,
+            client.exited(SECOND))
+        heard = link.rest()
+        link.close()
+        same("answers", [name for name, _ in heard[:2]], ["hello", "log_id"])
+        same("last answer", heard[-1], ("commit_point", 5))
 
 
 @only("serve", "once")
@@ -241,15 +258,17 @@ def part_restarts_refused(trial: Trial) -> None:
 
 def refused(trial: Trial, digits: str, point: int, text: str) -> None:
     """A restart is refused; while the server hasn't yet seen that the writer is gone, another error may come."""
-    for _ in range(100):
+    end = time.monotonic() + PATIENCE
+    while True:
         link = trial.direct()
         link.send(client.restart(digits, point))
         heard = link.rest()
         link.close()
         if heard[-1:] == [("error", text)]:
             return
-        if heard[-1:] != [("error", "log in use")]:
+        if heard[-1:] != [("error", "log in use")] or time.monotonic() > end:
             break
+        time.sleep(0.005)
     raise Differs(f"a restart of {digits} at {point} was answered by {heard[-1:]}, not by {text}")
 
 

@@ -1,28 +1,27 @@
 #!/usr/bin/env python3
 """Runs the recipes of docs/OPERATIONS.md as they stand there, over a store that the server made.
 
-usage: recipes.py PROGRAM REPLAY
+usage: recipes.py PROGRAM REPLAY [--only WORD]
 
 PROGRAM is sudo_logsrvd, REPLAY sudoreplay. Of each recipe the text is the page's own: in it DIR, OLD and the like are
-replaced by folders. It ends with 1 where something differs.
+replaced by folders. With --only, only the parts whose name has WORD. It ends with 1 if something differs.
 """
 from __future__ import annotations
 
+import argparse
 import os
 import re
 import shutil
 import subprocess
 import sys
-import time
 import traceback
 
-import client
 import store
-from guards import ACCEPT, MARK, Guarded, session
+from guards import MARK, Guarded, session
+from oracle.connection import PATIENCE
 from trial import Differs, same
 
 PAGE = os.path.join(os.path.dirname(os.path.abspath(__file__)), "..", "docs", "OPERATIONS.md")
-YEAR = 365 * 86400
 
 
 def block(heading: str, first: str) -> str:
@@ -30,56 +29,25 @@ def block(heading: str, first: str) -> str:
     with open(PAGE, encoding="utf-8") as file:
         below = re.split(rf"^##+ {re.escape(heading)}$", file.read(), flags=re.M)[1]
     section = re.split(r"^##+ ", below, flags=re.M)[0]
-    lines = section[section.index("    " + first):].splitlines()
-    end = next((at for at, line in enumerate(lines) if line and not line.startswith("    ")), len(lines))
-    return "\n".join(line[4:] for line in lines[:end]).rstrip()
+    indent = re.search(rf"^( {{4,}}){re.escape(first)}", section, flags=re.M)[1]
+    lines = section[section.index(indent + first):].splitlines()
+    end = next((at for at, line in enumerate(lines) if line and not line.startswith(indent)), len(lines))
+    return "\n".join(line[len(indent):] for line in lines[:end]).rstrip()
 
 
 def run(text: str, places: dict[str, str]) -> str:
     """What a recipe prints, with these folders in the place of its names."""
     for name, place in places.items():
         text = re.sub(rf"\b{name}\b", place, text)
-    done = subprocess.run(["bash", "-c", text], capture_output=True, text=True, check=False, timeout=60)
+    done = subprocess.run(["bash", "-c", text], capture_output=True, text=True, check=False, timeout=PATIENCE)
     same(f"errors of {text!r}", done.stderr, "")
     return done.stdout
 
 
 def listed(replay: str, folder: str) -> list[str]:
     """The identifiers of the logs of a store, as a listing has them."""
-    done = subprocess.run([replay, "-d", folder, "-l"], capture_output=True, text=True, check=True, timeout=60)
+    done = subprocess.run([replay, "-d", folder, "-l"], capture_output=True, text=True, check=True, timeout=PATIENCE)
     return re.findall(r"TSID=(\w+)", done.stdout)
-
-
-def half_made(on: Guarded, digits: str) -> None:
-    """What a kill leaves in the making of a log: its files, of which the journal has a closed gate alone."""
-    folder = store.folder_of(on.store, digits)
-    for name in os.listdir(folder):
-        with open(os.path.join(folder, name), "wb") as file:
-            file.write(b"\0" if name == "slots" else b"")
-
-
-def part_old_logs(program: str, replay: str) -> None:
-    """Complete logs whose journal is older than a year are named and removed, beside half-made, open and newer ones."""
-    with Guarded(program) as on:
-        on.start().sessions(5)
-        link = on.server.connect()
-        link.send(client.hello(), ACCEPT, client.record((5, "ttyout", MARK)))
-        while link.read()[0] != "commit_point":
-            pass
-        on.stop()
-        half_made(on, "000002")
-        old = time.time() - YEAR - 86400 * 2
-        for digits in ("000001", "000002", "000003", "000005", "000006"):
-            os.utime(os.path.join(store.folder_of(on.store, digits), "slots"), (old, old))
-        text, places = block("Keeping the store small", "find DIR"), {"DIR": on.store}
-        wanted = [store.folder_of(on.store, digits) for digits in ("000001", "000003", "000005")]
-        same("what is named", sorted(run(text, places).split()), wanted)
-        others = run(text.replace("= 3", "!= 3"), places).split()
-        same("logs that aren't complete", others, [store.folder_of(on.store, "000006")])
-        run(text + r" | xargs -r -d '\n' rm -r", places)
-        same("what is left", listed(replay, on.store), ["000004", "000006"])
-        on.server.start()
-        same("the next log", on.sessions(), ["000007"])
 
 
 def part_one_log_put_back(program: str, replay: str) -> None:
@@ -96,7 +64,7 @@ def part_one_log_put_back(program: str, replay: str) -> None:
         run(text, places)
         same("the log is back", listed(replay, on.store).count("000005"), 1)
         words = [replay, "-d", on.store, "-m", "0", "000005"]
-        same("what it plays", subprocess.run(words, capture_output=True, check=True, timeout=60).stdout, MARK)
+        same("what it plays", subprocess.run(words, capture_output=True, check=True, timeout=PATIENCE).stdout, MARK)
         on.server.start()
         same("the next log", on.sessions(), ["000007"])
         on.stop()
@@ -114,7 +82,7 @@ def part_numbers_by_hand(program: str, _: str) -> None:
         on.start().sessions(3)
         on.stop()
         os.remove(on.numbers())
-        on.refused("it holds logs")
+        on.refused("the store holds logs")
         run(block("Making seq2 by hand", "lanes="), {"DIR": on.store})
         on.server.start()
         same("the next log", on.sessions(), ["000004"])
@@ -130,6 +98,83 @@ def part_log_without_the_programs(program: str, _: str) -> None:
             file.write(b"beyond")
         text = block("Reading a log without the programs", "at=")
         same("what is printed", run(f"cd {folder}\n{text}", {}), MARK.decode())
+
+
+def lines_of_lanes(events: str, lanes: int) -> list[int]:
+    """How many lines the event log of each lane has, by its journal."""
+    return [len(store.lines(events + (f".{lane}" if lane else "")) or []) for lane in range(lanes)]
+
+
+def until_all_lanes(on: Guarded, lanes: int) -> list[str]:
+    """Stores sessions until each lane has some. Gives their identifiers, by rising number."""
+    logs: list[str] = []
+    while 0 in lines_of_lanes(on.events, lanes) and len(logs) < 200:
+        logs += on.sessions()
+    return sorted(logs)
+
+
+def part_backup(program: str, replay: str) -> None:
+    """A store of two lanes is copied while its server runs, put back later, and started."""
+    if not shutil.which("rsync"):
+        print("backup: skipped: rsync isn't there", flush=True)
+        return
+    with Guarded(program, further=["--lanes", "2"]) as on:
+        before = until_all_lanes(on.start(), 2)
+        lines = lines_of_lanes(on.events, 2)
+        folder = on.place.folder
+        places = {"DIR": on.store, "LINES": on.events, "BACKUP": folder + "/copy", "OLD": folder + "/old"}
+        run(block("Copying and moving a store", "mkdir -p -m 700 BACKUP"), places)
+        on.sessions(3)
+        on.stop()
+        same("logs of the copy", listed(replay, places["BACKUP"] + "/logs"), before)
+        same("lines of the copy", lines_of_lanes(os.path.join(places["BACKUP"], os.path.basename(on.events)), 2), lines)
+        kept = on.contents()
+        run(block("Copying and moving a store", "mkdir -m 700 OLD"), places)
+        same("what is left", on.contents(), {})
+        run(block("Copying and moving a store", "mkdir -m 700 DIR"), places)
+        same("logs that were put back", listed(replay, on.store), before)
+        for path, text in on.contents().items():
+            if os.path.basename(path) in ("timing", "ttyout", "log.json", "exit.json"):
+                same(path, text, kept[path])
+        on.server.start()
+        same("lines that were put back", lines_of_lanes(on.events, 2), lines)
+        later = on.sessions(5)
+        newest = {int(log, 36) % 2: log for log in before}
+        same("numbers that were drawn twice", [log for log in later if log <= newest[int(log, 36) % 2]], [])
+        same("all logs", listed(replay, on.store), sorted(before + later))
+
+
+def part_logrotate(program: str, _: str) -> None:
+    """The sample for logrotate moves the event logs of four lanes, and keeps the journal of one that it leaves."""
+    if not shutil.which("logrotate"):
+        print("logrotate: skipped: it isn't there", flush=True)
+        return
+    with Guarded(program, further=["--lanes", "4"]) as on:
+        until_all_lanes(on.start(), 4)
+        on.stop()
+        lines = lines_of_lanes(on.events, 4)
+        folder, sample, empty = os.path.dirname(on.events), on.place.folder + "/logrotate", on.events + ".3"
+        with open(os.path.join(os.path.dirname(PAGE), "..", "etc", "logrotate"), encoding="utf-8") as file:
+            text = file.read().replace("/var/lib/sudo-logsrvd/events", on.events)
+        with open(sample, "w", encoding="utf-8") as file:
+            file.write(re.sub(r"systemctl .*", ":", text))
+        os.chmod(sample, 0o644)
+        for path in (empty, empty + ".slots"):
+            os.remove(path)
+        on.server.start()
+        on.stop()
+        words = ["logrotate", "-f", "-s", on.place.folder + "/state", sample]
+        done = subprocess.run(words, capture_output=True, text=True, check=False, timeout=PATIENCE)
+        same("status and errors of logrotate", (done.returncode, done.stderr), (0, ""))
+        names = sorted(name for name in os.listdir(folder) if name.startswith(os.path.basename(on.events)))
+        front = os.path.basename(on.events)
+        same("the files", [re.sub(r"-[0-9]{8}$", "-DATE", name) for name in names],
+            [f"{front}-DATE", f"{front}.1-DATE", f"{front}.2-DATE", f"{front}.3", f"{front}.3.slots"])
+        moved = [len(store.contents(os.path.join(folder, name)).splitlines()) for name in names[:3]]
+        same("lines that were moved", moved, lines[:3])
+        on.server.start()
+        count = len(on.sessions(4))
+        same("lines of the new event logs", sum(lines_of_lanes(on.events, 4)), 2 * count)
 
 
 def part_event_log_rotated(program: str, _: str) -> None:
@@ -149,14 +194,18 @@ def part_event_log_rotated(program: str, _: str) -> None:
 
 def main() -> int:
     """Tries all recipes."""
-    program, replay = (os.path.realpath(path) for path in sys.argv[1:3])
+    words = argparse.ArgumentParser(description=__doc__, formatter_class=argparse.RawDescriptionHelpFormatter)
+    words.add_argument("program", type=os.path.realpath)
+    words.add_argument("replay", type=os.path.realpath)
+    words.add_argument("--only", default="")
+    args = words.parse_args()
     count = differ = 0
     for name, part in list(globals().items()):
-        if not name.startswith("part_"):
+        if not name.startswith("part_") or args.only not in name:
             continue
         count += 1
         try:
-            part(program, replay)
+            part(args.program, args.replay)
         except Exception as fault:  # pylint: disable=broad-except
             differ += 1
             print(f"{name[5:]}: {fault if isinstance(fault, Differs) else traceback.format_exc()}", flush=True)

@@ -22,12 +22,16 @@ import traceback
 from collections.abc import Callable, Sequence
 from typing import Any, Self
 
+import at_root
 import client
 import peer
 import servers
 import store
 from oracle import messages
+from oracle.connection import PATIENCE
 from oracle.records import SECOND, Record, elapsed
+from oracle.store import write_numbers
+from oracle.waits import until
 from trial import Differs, same
 
 FORM = servers.OURS + """[relay]
@@ -39,7 +43,7 @@ INFO = {"command": "/usr/bin/id", "runargv": ["id", "-u"], "runuser": "root", "r
 NO_UPSTREAM, STORE, PENDING = 1, 4, 8
 # This number of runs beside a server may be cut off on a machine that is never idle.
 MOST_CUT = 2
-CUT_OFF = ("the other server ended the connection", "the connection could not be made, or was cut")
+CUT_OFF = ("the other server ended the connection", "the connection was cut", "the connection could not be made")
 
 
 class Cutter:
@@ -147,8 +151,10 @@ class Both:
         """Both servers run."""
         return self
 
-    def __exit__(self, *_: object) -> None:
+    def __exit__(self, kind: object, *_: object) -> None:
         """Ends both servers, and removes their folders."""
+        if kind:
+            print(f"the servers, where what follows was found: {self.near.seen()}; the other: {self.far.seen()}")
         self.cutter.close()
         for server in (self.near, self.far):
             if server.process and server.process.poll() is None:
@@ -167,19 +173,14 @@ class Both:
         link = self.near.connect()
         link.send(client.hello(), client.accept(submit, INFO), *map(client.record, records), exit_)
         digits, points = None, []
-        try:
-            while True:
-                link.pull(30)
-                for name, what in link.waiting():
-                    digits = what if name == "log_id" else digits
-                    points += [what] if name == "commit_point" else []
-        except client.Closed:
-            pass
+        for name, what in link.rest():
+            digits = what if name == "log_id" else digits
+            points += [what] if name == "commit_point" else []
         if digits is None or points[-1:] != [elapsed(records)]:
             raise Differs(f"a session wasn't stored: {digits}, {points}")
         return digits
 
-    def relay(self, seconds: float = 60) -> tuple[int, str]:
+    def relay(self, seconds: float = PATIENCE) -> tuple[int, str]:
         """Runs `relay`, and gives its status and what it says."""
         done = subprocess.run([self.on.program, "relay", "-f", self.place.conf], capture_output=True, timeout=seconds,
             check=False)
@@ -328,7 +329,7 @@ def part_upstream_killed(on: Trial) -> None:
             run = subprocess.Popen([on.program, "relay", "-f", both.place.conf], stderr=subprocess.PIPE)
             time.sleep(on.random.uniform(0.02, 0.3))
             both.far.kill()
-            run.wait(60)
+            run.wait(PATIENCE)
             both.far.start()
             if run.returncode not in (0, PENDING):
                 raise Differs(f"status {run.returncode}: {run.stderr.read()}")
@@ -344,7 +345,7 @@ def part_relay_killed(on: Trial) -> None:
             run = subprocess.Popen([on.program, "relay", "-f", both.place.conf], stderr=subprocess.DEVNULL)
             time.sleep(on.random.uniform(0.01, 0.3))
             run.send_signal(signal.SIGKILL)
-            run.wait(60)
+            run.wait(PATIENCE)
         both.relays_all(3)
         both.compare(copies=None)
 
@@ -384,7 +385,7 @@ def part_complete_already(on: Trial) -> None:
 
 def is_cut_off(said: str) -> bool:
     """Whether a run says of each log that is left that its connection was cut off."""
-    lines = [line for line in said.splitlines() if ": 0" in line]
+    lines = [line for line in said.splitlines() if ": 0" in line and "it has no runargv" not in line]
     return bool(lines) and all(any(cause in line for cause in CUT_OFF) for line in lines)
 
 
@@ -425,9 +426,7 @@ def part_two_relays(on: Trial) -> None:
         silent = Bad(b"")
         both.aim(silent.port)
         first = subprocess.Popen([on.program, "relay", "-f", both.place.conf], stderr=subprocess.PIPE)
-        end = time.monotonic() + 10
-        while not silent.links and time.monotonic() < end:
-            time.sleep(0.01)
+        until("the first relay is connected", lambda: silent.links)
         status, said = both.relay()
         same("status of the second", status, STORE)
         if "another relay uses this store" not in said:
@@ -435,7 +434,7 @@ def part_two_relays(on: Trial) -> None:
         both.near.kill()
         both.near.start()
         silent.close()
-        first.wait(60)
+        first.wait(PATIENCE)
         same("status of the first", first.returncode, PENDING)
 
 
@@ -515,6 +514,26 @@ def part_lock_of_another(on: Trial) -> None:
         both.relays_all(1)
 
 
+def part_absent(on: Trial) -> None:
+    """Numbers without a folder cost nothing: of removed logs, or up to a last number that is far too high."""
+    with Both(on) as both:
+        records = [(SECOND, "ttyout", b"x")]
+        first, second = [both.session(records, client.exited(SECOND)) for _ in range(2)]
+        both.near.kill()
+        shutil.rmtree(store.folder_of(both.place.store, first))
+        high, last = 36**5 + 7, 36**6 - 1
+        copy = store.folder_of(both.place.store, store.digits_of(high))
+        shutil.copytree(store.folder_of(both.place.store, second), copy)
+        write_numbers(both.place.store, last)
+        began = time.monotonic()
+        status, said = both.relay()
+        took = time.monotonic() - began
+        same("status", (status, "pending" in said), (0, False))
+        same("logs at the other server", len(both.far_sessions()), 2)
+        if took > 10:
+            raise Differs(f"a run over {last} numbers took {took:.1f} s")
+
+
 def part_damaged(on: Trial) -> None:
     """A damaged log and a damaged relaying are said, and the other logs are relayed."""
     with Both(on) as both:
@@ -531,13 +550,31 @@ def part_damaged(on: Trial) -> None:
         for word in (f"{first}: ttyout is damaged", f"{second}: what is kept of its relaying is damaged"):
             if word not in said:
                 raise Differs(said)
-        if third in said:
-            raise Differs(f"the third isn't relayed: {said}")
         for name in ("relay", "relay.slots", "relay.commit"):
             if os.path.exists(os.path.join(folder, name)):
                 os.remove(os.path.join(folder, name))
-        status, said = both.relay()
+        # the other server may have the third, though its answer was cut: a run hears that, the next one sends it anew
+        for _ in range(2):
+            status, said = both.relay()
+        if second in said or third in said:
+            raise Differs(f"the second and the third aren't relayed: {said}")
         same("last line", said.splitlines()[-1], "sudo_logsrvd: 1 logs pending")
+
+
+def part_journal_gone(on: Trial) -> None:
+    """A log whose journal is gone or has no entry is named, and the other logs are relayed with status 0."""
+    with Both(on) as both:
+        first, second, third = [both.session([(SECOND, "ttyout", b"x" * n)], client.exited(SECOND)) for n in (1, 2, 3)]
+        os.remove(os.path.join(store.folder_of(both.place.store, first), "slots"))
+        os.truncate(os.path.join(store.folder_of(both.place.store, second), "slots"), 0)
+        status, said = both.relay()
+        same("status", status, 0)
+        for word in (f"{first}: its journal, slots, is gone", f"{second}: its journal, slots, has no entry"):
+            if word not in said:
+                raise Differs(said)
+        if third in said:
+            raise Differs(f"the third isn't relayed: {said}")
+        same("connections", both.cutter.count, 1)
 
 
 # ---- to sudo's own server

@@ -11,6 +11,7 @@ differs.
 """
 from __future__ import annotations
 
+import argparse
 import os
 import random
 import re
@@ -20,6 +21,7 @@ import tempfile
 from collections.abc import Iterator, Sequence
 from typing import Any
 
+import at_root
 from oracle import lines, store
 from oracle.records import SECOND, STREAMS, Record
 from oracle.store import digits_of, folder_of
@@ -136,8 +138,11 @@ class Trial:
 
 def main() -> int:
     """Compares both programs."""
-    peer = sys.argv[2] if len(sys.argv) > 2 else "/usr/bin/sudoreplay"
-    trial = Trial(os.path.realpath(sys.argv[1]), peer)
+    words = argparse.ArgumentParser(description=__doc__, formatter_class=argparse.RawDescriptionHelpFormatter)
+    words.add_argument("program", type=os.path.realpath)
+    words.add_argument("peer", nargs="?", default="/usr/bin/sudoreplay")
+    args = words.parse_args()
+    trial = Trial(args.program, args.peer)
     rng = random.Random(20)
     trial.write(rng)
     for number in range(1, SESSIONS + 1):

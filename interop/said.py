@@ -7,6 +7,7 @@ PROGRAM is sudo_logsrvd, REPLAY sudoreplay. Each case is words, and the lines an
 words DIR stands for a store of seven logs, of which 000002 and 000004 are damaged, 000003 has lost its journal, and those of 000006
 and 000007 are emptied and garbled. It ends with 1 where something differs.
 """
+import argparse
 import os
 import shutil
 import subprocess
@@ -41,7 +42,8 @@ USAGE = [
     (["-nF"], ["an identifier is missing, or -l"]),
     (["-F", "-nF", "000001"], ["-F may stand once"]),
     (["000001", "-s"], ["-s needs a value; see sudoreplay(8)"]),
-    (["-m", "-s", "1", "000001"], ["-m needs a value; see sudoreplay(8)"]),
+    (["-m", "-s", "1", "000001"], ["-m needs a value, and -s is none: a value doesn't begin with a hyphen"]),
+    (["-s", "-1", "000001"], ["-s needs a value, and -1 is none: a value doesn't begin with a hyphen"]),
     (["-s", "1", "-s2", "000001"], ["-s may stand once"]),
     ([], ["an identifier is missing, or -l"]),
     (["000001", "000002"], ['"000002" is one identifier too many: one log is played at a time']),
@@ -70,22 +72,27 @@ UNLISTED = [
     f"log 000004 (DIR/00/00/04): timing {GARBLED}; it isn't listed",
     *(f"log {digits} (DIR/00/00/{digits[4:]}): {NO_ENTRY}, so it isn't listed{EMPTIED}" for digits in ("000006", "000007")),
 ]
-NO_NUMBERS = "DIR: it has no seq2, so no log is listed: put it back from a copy; an identifier still plays its log"
 NUMBERS_DAMAGED = "DIR/seq2: it is damaged, so no log is listed: put it back from a copy; an identifier still plays its log"
 
 NUMBERS_EMPTY = "DIR/seq2: it has no entry, so no log is listed: put it back from a copy; an identifier still plays its log"
-NUMBERS_OLDER = "DIR/seq2: its last number is 000005, and there is log 000007, so the logs above it aren't listed: put it back from a newer copy; an identifier still plays its log"
+NUMBERS_OLDER = "DIR/seq2: its last number is 000005, and there is log 000007 of its numbers: logs above 000005 aren't listed: put it back from a newer copy; an identifier still plays its log"
 
 # sudo_logsrvd: words, and the line in front of that of the status
 COMMANDS = [
-    ([], "a command is missing: serve, relay, once or load"),
-    (["-h"], "-h: no such command; there are serve, relay, once and load; see sudo_logsrvd(8)"),
-    (["server"], "server: no such command; there are serve, relay, once and load; see sudo_logsrvd(8)"),
+    ([], "a command is missing: serve, check, relay, once or load"),
+    (["-h"], "-h: no such command; there are serve, check, relay, once and load; see sudo_logsrvd(8)"),
+    (["server"], "server: no such command; there are serve, check, relay, once and load; see sudo_logsrvd(8)"),
     (["once", "-V"], "-V: no such option here; see sudo_logsrvd(8)"),
     (["once", "--lanes", "1"], "--lanes: no such option here; see sudo_logsrvd(8)"),
     (["serve", "-f"], "-f needs a value; see sudo_logsrvd(8)"),
     (["serve", "-f", "a", "-fb"], "-f may stand once"),
-    (["serve", "--lanes", "5"], "--lanes 5: the number of lanes is from 1 to 4"),
+    (["serve", "--lanes", "9"], "--lanes 9: the number of lanes is from 1 to 8"),
+    (["serve", "--lanes", "-1"], "--lanes needs a value, and -1 is none: a value doesn't begin with a hyphen"),
+    (["serve", "--workers", "65"], "--workers 65: the number of workers is from 1 to 64"),
+    (["serve", "--workers=0"], "--workers 0: the number of workers is from 1 to 64"),
+    (["serve", "--workers", "2", "--workers", "3"], "--workers may stand once"),
+    (["check", "--workers", "1"], "--workers: no such option here; see sudo_logsrvd(8)"),
+    (["check", "now"], '"now" is one word too many'),
     (["serve", "--stop-after=0"], "--stop-after 0: the number of connections is from 1 to 4294967295"),
     (["load"], "load needs the number of connections"),
     (["load", "10001"], "load 10001: the number of connections is from 1 to 10000"),
@@ -116,6 +123,20 @@ SETTINGS = [
             '9: log_format can\'t be "xml": it takes sudo or json',
         ],
     ),
+]
+
+# section and key, and why the key is passed over
+PASSED = [
+    (b"server", b"timeout", "the server has no timeouts, and each wait of `relay` ends after 30 s"),
+    (b"server", b"TLS_Cert", "this server has no TLS: OPERATIONS shows a tunnel under Exposure"),
+    (b"server", b"tls_new", "this server has no TLS: OPERATIONS shows a tunnel under Exposure"),
+    (b"eventlog", b"log_type", "events go to the file `path` of [logfile], never to syslog"),
+    (b"server", b"log_exit", "its section is [eventlog]"),
+    (b"iolog", b"Path", "its section is [logfile]"),
+    (b"iolog", b"log_pasword", "there is no such key; is it log_passwords of [iolog]?"),
+    (b"server", b"listen_addres", "there is no such key; is it listen_address of [server]?"),
+    (b"server", b"zzzzzz", "there is no such key"),
+    (b"server", b"log_file_of_events", "there is no such key"),
 ]
 
 
@@ -155,7 +176,7 @@ class Said:
         return text
 
     def run(self, program, *words, **how):
-        return subprocess.run([program, *map(self.named, words)], stdin=subprocess.DEVNULL, capture_output=True, cwd=self.folder, check=False, timeout=60, **how)
+        return subprocess.run([program, *map(self.named, words)], stdin=subprocess.DEVNULL, capture_output=True, cwd=self.folder, check=False, timeout=180, **how)
 
     def says(self, program, words, lines, status, behind=0, **how):
         """The lines on standard error, but for so many at the end, and the status."""
@@ -173,7 +194,7 @@ class Said:
         for words, lines in USAGE:
             self.says(self.replay, words, [*lines, "usage"], 2, behind=1)
         for words, line in COMMANDS:
-            self.says(self.program, words, [line, "usage"], 2, behind=4)
+            self.says(self.program, words, [line, "usage"], 2, behind=5)
 
     def searches(self):
         for words, at, line in SEARCHES:
@@ -190,6 +211,7 @@ class Said:
         self.says(self.replay, ["-d", "DIR", "000002"], [f"log 000002 (DIR/00/00/02): stdout {GARBLED}", "log damaged"], 4)
         self.says(self.replay, ["-d", "DIR", "000003"], [f"log 000003 (DIR/00/00/03): {GONE}, so it can't be played: put it back from a copy", "no such log"], 8, behind=1)
         self.says(self.replay, ["-d", "DIR", "000006"], [f"log 000006 (DIR/00/00/06): {NO_ENTRY}, so it can't be played{EMPTIED}", "no such log"], 8, behind=1)
+        self.says(self.replay, ["-d", "DIR", "00000A"], ["DIR has no log 00000A", "no such log"], 8, behind=1)
         for word in ("000001@1", "00/00/01"):
             self.says(self.replay, ["-d", "DIR", word], [f'"{word}" is no identifier: paths and offsets aren\'t taken', "no such log"], 8, behind=1)
 
@@ -209,7 +231,7 @@ class Said:
             file.write(bytes([kept[0], kept[1], *bytes(len(kept) - 2)]))
         self.says(self.replay, ["-d", "DIR", "-l"], [NUMBERS_DAMAGED, "log damaged"], 4)
         os.remove(path)
-        self.says(self.replay, ["-d", "DIR", "-l"], [NO_NUMBERS], 0)
+        self.says(self.replay, ["-d", "DIR", "-l"], [NUMBERS_EMPTY], 0)
         self.says(self.replay, ["-d", "DIR", "-m", "0", "000001"], [], 0)
         for empty in (b"", b"\0", bytes(26), kept[:5]):
             with open(path, "wb") as file:
@@ -239,7 +261,7 @@ class Said:
         """Nothing is said to who reads a part of the listing."""
         reader, writer = os.pipe()
         os.close(reader)
-        answer = subprocess.run([self.replay, "-d", self.names["DIR"], "-l"], stdin=subprocess.DEVNULL, stdout=writer, stderr=subprocess.PIPE, check=False, timeout=60)
+        answer = subprocess.run([self.replay, "-d", self.names["DIR"], "-l"], stdin=subprocess.DEVNULL, stdout=writer, stderr=subprocess.PIPE, check=False, timeout=180)
         os.close(writer)
         self.asked += 1
         if (answer.returncode, answer.stderr) != (6, b""):
@@ -250,6 +272,12 @@ class Said:
         for text, lines in SETTINGS:
             self.with_settings(text, [f"CONF:{line}" for line in lines], lines[0].split(":")[0])
         self.with_settings(b"wrong\n" * 60, [*(f"CONF:{n}: the line is refused: it is neither `[section]` nor `key = value`" for n in range(1, 51)), "CONF: 10 more lines are refused"], 1)
+        passed = b"".join(b"[%s]\n%s = 1\n" % (section, key) for section, key, _ in PASSED)
+        self.looks(passed, [f"CONF:{2 * n}: warning: {key.decode()} is passed over: {why}" for n, (_, key, why) in enumerate(PASSED, 1)])
+        self.looks(b"[server]\nlisten_address = 0\n", ["CONF: warning: listen_address: the host 0 is a number, which the system takes for an address (0 is every address): write *:PORT for every address, or the name or address itself"])
+        os.chmod(self.names["CONF"], 0o666)
+        self.looks(b"", ["CONF: warning: every user may write this file, and so say where the logs go: chmod o-w CONF"])
+        self.says(self.program, ["check", "-f", "NOSUCH"], ["NOSUCH: no such file, so `serve` would take the defaults: listen_address is *:30343 (every address), iolog_dir is /var/log/sudo-io, path is /var/log/sudo.log: `settings line 0` stands for that", "settings line 0"], 3)
         line = "CONF: the settings file couldn't be read: `settings line 0` stands for that"
         os.remove(self.names["CONF"])
         os.makedirs(self.names["CONF"])
@@ -259,6 +287,17 @@ class Said:
             self.differ += 1
             print(f"settings line 0: {answer}")
 
+    def looks(self, text, lines):
+        """A look at settings that are taken: what it says, and that it makes nothing."""
+        with open(self.names["CONF"], "wb") as file:
+            file.write(text)
+        before = sorted(os.listdir(self.folder))
+        self.says(self.program, ["check", "-f", "CONF"], lines, 0)
+        self.asked += 1
+        if sorted(os.listdir(self.folder)) != before:
+            self.differ += 1
+            print(f"a look made {sorted(os.listdir(self.folder))}")
+
     def with_settings(self, text, lines, first):
         with open(self.names["CONF"], "wb") as file:
             file.write(text)
@@ -266,7 +305,11 @@ class Said:
 
 
 def main():
-    said = Said(*sys.argv[1:3])
+    words = argparse.ArgumentParser(description=__doc__, formatter_class=argparse.RawDescriptionHelpFormatter)
+    words.add_argument("program")
+    words.add_argument("replay")
+    args = words.parse_args()
+    said = Said(args.program, args.replay)
     for step in (said.words, said.searches, said.folders, said.logs, said.numbers, said.denied, said.left, said.settings):
         step()
     shutil.rmtree(said.folder)

@@ -7,7 +7,8 @@ SERVER is sudo_logsrvd of this repository, and PROGRAM its sudo_sendlog. The pee
 what needs them is skipped without them. The session is stored in both layouts: ours for PROGRAM, and for the peer as
 contrib/sudo-layout writes it. What each server stored is compared with the records that were sent. Between PROGRAM and
 a server a port cuts the connection off after some bytes; the session then goes on with `-i` and `-r`, and is complete
-at the server. It ends with 1 if something differs.
+at the server. A session is sent to a slow server while its client resumes it, so that records are dropped: what was
+sent is from before, and the sender says so. It ends with 1 if something differs.
 """
 from __future__ import annotations
 
@@ -23,10 +24,14 @@ import time
 from collections.abc import Callable, Sequence
 from typing import Any
 
+import at_root
+import follow
 import servers
-from oracle import lines, store
+from oracle import lines, messages, store, wire
+from oracle.connection import PATIENCE
 from oracle.records import SECOND, Record, elapsed, ends
 from oracle.sudo import read_session
+from oracle.waits import until
 
 INFO: dict[str, Any] = {
     "columns": 80, "command": "/usr/bin/id", "lines": 24, "runargv": ["id", "-u"], "rungid": 0, "rungroup": "root",
@@ -49,6 +54,14 @@ def same(what: str, found: object, wanted: object) -> None:
     """Both are equal."""
     if found != wanted:
         raise Differs(f"{what}: {str(found)[:300]!r} in place of {str(wanted)[:300]!r}")
+
+
+def waited(what: str, find: Callable[[], object], wanted: object) -> None:
+    """Both are equal, at once or soon."""
+    end = time.monotonic() + PATIENCE
+    while find() != wanted and time.monotonic() < end:
+        time.sleep(0.05)
+    same(what, find(), wanted)
 
 
 class Cut:
@@ -175,7 +188,8 @@ def sends_whole(on: Try) -> None:
         same("our sender at our server", log_of_ours(place), WHOLE)
         if servers.tool("sudo_sendlog"):
             on.theirs(server.port)
-            same("sudo's sender at our server", log_of_ours(place, "000002"), WHOLE)
+            # sudo's own doesn't wait until the exit is taken
+            waited("sudo's sender at our server", lambda: log_of_ours(place, "000002"), WHOLE)
     on.at_ours(part)
 
 
@@ -233,7 +247,7 @@ def to_theirs(on: Try) -> None:
         check_lines(on.ours(server.port))
         same("our sender at sudo's server", log_of_theirs(place), WHOLE)
         on.theirs(server.port)
-        same("sudo's sender at sudo's server", log_of_theirs(place, "000002"), WHOLE)
+        waited("sudo's sender at sudo's server", lambda: log_of_theirs(place, "000002"), WHOLE)
     on.at_theirs(part)
 
 
@@ -252,9 +266,78 @@ def part_to_theirs(on: Try) -> None:
     on.at_theirs(part)
 
 
+class Slow:
+    """A server that takes one session, and reads nothing between the identifier and `go_on`."""
+
+    def __init__(self) -> None:
+        """It listens."""
+        self.listener = socket.socket()
+        self.listener.setsockopt(socket.SOL_SOCKET, socket.SO_RCVBUF, 65536)
+        self.listener.bind(("127.0.0.1", 0))
+        self.listener.listen()
+        self.port = self.listener.getsockname()[1]
+        self.go_on, self.full, self.records = threading.Event(), threading.Event(), b""
+        self.thread = threading.Thread(target=self.serve, daemon=True)
+        self.thread.start()
+
+    def serve(self) -> None:
+        """Takes the session."""
+        link, _ = self.listener.accept()
+        link.sendall(wire.frame(messages.server_hello("slow")) + wire.frame(messages.log_id("slow")))
+        # records came, which are more than the opening
+        while len(link.recv(32768, socket.MSG_PEEK)) < 32768:
+            time.sleep(0.01)
+        self.full.set()
+        self.go_on.wait(PATIENCE)
+        frames = wire.Frames()
+        while piece := link.recv(1 << 20):
+            for message in frames.feed(piece):
+                name, content = messages.read_client(message)
+                if name == "ttyout":
+                    self.records += content[-1]
+        link.close()
+
+
+def resumes(session: follow.Session, kept: int, data: bytes) -> bool:
+    """Resumes a session with a record. False if the server hasn't seen yet that its writer is gone."""
+    session.resume(kept)
+    try:
+        session.record(data)
+    except follow.Differs as fault:
+        session.link.close()
+        if "log in use" in str(fault):
+            return False
+        raise
+    return True
+
+
+def cut_meanwhile(on: Try) -> None:
+    """A client resumes the session while it is sent: none of what it adds is sent."""
+    place, slow = servers.Place(), Slow()
+    server = servers.Serve(on.server, place).start()
+    session = follow.Session(server)
+    for letter in b"ABCDEFGH":
+        session.record(bytes([letter]) * 1_000_000)
+    before = b"".join(session.sent)
+    with subprocess.Popen([on.program, "-d", place.store, "-h", "127.0.0.1", "-p", str(slow.port), session.digits],
+            stdout=subprocess.DEVNULL, stderr=subprocess.PIPE, text=True) as sender:
+        slow.full.wait(PATIENCE)
+        session.link.close()
+        until("the session goes on", lambda: resumes(session, 2, b"z" * 1_000_000))
+        for letter in b"yx":
+            session.record(bytes([letter]) * 1_000_000)
+        slow.go_on.set()
+        said = sender.communicate(timeout=60)[1]
+    slow.thread.join(10)
+    same(f"a session that is cut while it is sent: {said}",
+        (sender.returncode, "was cut by a restart" in said), (4, True))
+    same("what came of it is from before", (before.startswith(slow.records), bool(slow.records)), (True, True))
+    server.stop()
+
+
 def main() -> int:
     """Tries each part."""
-    words = argparse.ArgumentParser(description="Tries sudo_sendlog with both servers.")
+    words = argparse.ArgumentParser(description=__doc__, formatter_class=argparse.RawDescriptionHelpFormatter)
     words.add_argument("--server", required=True)
     words.add_argument("program")
     given = words.parse_args()
@@ -264,6 +347,7 @@ def main() -> int:
         ("parts of a session", lambda: sends_part(on)),
         ("an accept and a reject", lambda: sends_events(on)),
         ("a cut connection", lambda: goes_on(on, on.at_ours, log_of_ours)),
+        ("a session that is resumed while it is sent", lambda: cut_meanwhile(on)),
     ]
     if servers.tool("sudo_logsrvd") and servers.tool("sudo_sendlog"):
         parts.append(("sudo's own server", lambda: to_theirs(on)))

@@ -50,10 +50,12 @@ def tried(part: Part, on: trial.Trial) -> str | None:
     """Why the part differs, or None."""
     try:
         part(on)
-    except (trial.Differs, store.Damaged, TimeoutError, subprocess.TimeoutExpired, servers.Failed) as fault:
-        return str(fault) or type(fault).__name__
+    except (trial.Differs, store.Damaged, servers.Failed) as fault:
+        return str(fault)
+    except (TimeoutError, subprocess.TimeoutExpired) as fault:
+        return f"{fault or type(fault).__name__}; the server: {on.server.seen()}"
     except Exception:  # pylint: disable=broad-except
-        return traceback.format_exc()
+        return f"{traceback.format_exc()}; the server: {on.server.seen()}"
     return None
 
 

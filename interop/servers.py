@@ -13,7 +13,9 @@ import time
 from collections.abc import Callable, Sequence
 from typing import Self
 
-from oracle.connection import Connection, connect
+import at_root
+from oracle import waits
+from oracle.connection import PATIENCE, Connection, connect
 
 OURS = """[server]
 listen_address = 127.0.0.1:{port}
@@ -81,8 +83,16 @@ class Place:
 
     def said(self) -> str:
         """What the server said on standard error."""
+        if not os.path.exists(self.errors):
+            return ""
         with open(self.errors, encoding="utf-8", errors="replace") as file:
             return file.read()
+
+
+def known_of(place: Place, process: subprocess.Popen[bytes] | None) -> str:
+    """What a server said last, and what its threads do if it runs."""
+    runs = process is not None and process.poll() is None
+    return f"it said {place.said()[-500:]!r}" + (f"; {waits.standing(process.pid)}" if runs else "")
 
 
 class Serve:
@@ -109,28 +119,33 @@ class Serve:
                 preexec_fn=self.before)
         return offset
 
-    def start(self, seconds: float = 20) -> Self:
+    def start(self, seconds: float = PATIENCE) -> Self:
         """Starts it, and waits until it listens."""
         offset = self.spawn()
         end = time.monotonic() + seconds
         while not self.listens(offset):
-            if self.process.poll() is not None or time.monotonic() > end:
-                words = " ".join(self.words)
-                raise Failed(f"{self.program} {words}: status {self.process.poll()}: {self.place.said()[-500:]}")
+            status = self.process.poll()
+            if status is not None or time.monotonic() > end:
+                how = f"it ended with {status}" if status is not None else f"it doesn't listen after {seconds:.0f} s"
+                raise Failed(f"{self.program} {' '.join(self.words)}: {how}; {self.seen()}")
             time.sleep(0.002)
         return self
+
+    def seen(self) -> str:
+        """What is known of it, for the words of a failure."""
+        return known_of(self.place, self.process)
 
     def listens(self, offset: int) -> bool:
         """The server says its address in a line, once it listens."""
         if not self.probe:
             return f":{self.port}" in self.place.said()[offset:]
         try:
-            socket.create_connection(("127.0.0.1", self.port), timeout=1).close()
+            socket.create_connection(("127.0.0.1", self.port), timeout=PATIENCE).close()
             return True
         except OSError:
             return False
 
-    def connect(self, timeout: float = 30) -> Connection:
+    def connect(self, timeout: float = PATIENCE) -> Connection:
         """A connection to it."""
         return connect(self.port, timeout)
 
@@ -197,7 +212,7 @@ class Once:
             return subprocess.Popen(words, stdin=link.fileno(), stdout=link.fileno(), stderr=errors,
                 preexec_fn=self.before)
 
-    def connect(self, timeout: float = 30) -> Connection:
+    def connect(self, timeout: float = PATIENCE) -> Connection:
         """A connection, after the end of the process of the one before."""
         self.end()
         ours, theirs = socket.socketpair()
@@ -210,8 +225,16 @@ class Once:
 
     def end(self) -> None:
         """Waits for the process of the connection before, which ends once that one is closed."""
-        if self.process and self.process.wait(30) not in (0, -signal.SIGKILL, 5, 6):
-            raise Failed(f"{self.program} once: status {self.process.returncode}: {self.place.said()[-500:]}")
+        try:
+            status = self.process.wait(PATIENCE) if self.process else 0
+        except subprocess.TimeoutExpired as fault:
+            raise Failed(f"{self.program} once: it doesn't end after {PATIENCE:.0f} s; {self.seen()}") from fault
+        if status not in (0, -signal.SIGKILL, 5, 6):
+            raise Failed(f"{self.program} once: status {status}: {self.place.said()[-500:]}")
+
+    def seen(self) -> str:
+        """What is known of it, for the words of a failure."""
+        return known_of(self.place, self.process)
 
     def kill(self) -> None:
         """Ends the process at once."""

@@ -7,6 +7,7 @@ from __future__ import annotations
 
 import sys
 
+import at_root
 from oracle.records import SIGNAL, STREAMS, Damaged
 from oracle.store import (
     LOG_BODY, NUMBERS_BODY, PARTS, Body, Log, body_of, contents, digits_of, entry, folder_of, folders, lines, main,

@@ -5,6 +5,7 @@ import os
 import random
 from collections.abc import Sequence
 
+import at_root
 import peer
 from oracle.records import Record, cut_at, elapsed, stream_of
 from tap import Sent

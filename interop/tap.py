@@ -5,7 +5,8 @@ import socket
 import threading
 import time
 
-from oracle.connection import Answer
+import at_root
+from oracle.connection import PATIENCE, Answer
 from oracle.messages import read_client, read_server
 from oracle.records import STREAMS
 from oracle.wire import Frames
@@ -79,19 +80,20 @@ class Tap:
         piece = piece[:self.cut - len(pair.sent)]
         pair.sent += piece
         target.sendall(piece)
-        end = time.monotonic() + 20
+        end = time.monotonic() + PATIENCE
         while not Sent(pair).points and time.monotonic() < end:
             time.sleep(0.02)
         for link in (source, target):
             link.shutdown(socket.SHUT_RDWR)
 
-    def settled(self, count: int, seconds: float = 20) -> list[Pair]:
+    def settled(self, count: int, seconds: float = PATIENCE) -> list[Pair]:
         """The pairs that came since the last call, once so many are there and all have ended."""
         end = time.monotonic() + seconds
         while len(self.pairs) < count or any(pair.open for pair in self.pairs):
             if time.monotonic() > end:
                 still_open = sum(pair.open > 0 for pair in self.pairs)
-                raise TimeoutError(f"{len(self.pairs)} connections of {count}, {still_open} open")
+                came = f"{len(self.pairs)} of {count} connections came, and {still_open} of them have not ended"
+                raise TimeoutError(f"{came} after {seconds:.0f} s")
             time.sleep(0.01)
         pairs, self.pairs = self.pairs, []
         return pairs

@@ -13,13 +13,14 @@ import time
 from collections.abc import Callable, Sequence
 from typing import Any
 
+import at_root
 import client
 import peer
 import servers
 import store
 import tap
 from oracle import lines
-from oracle.connection import Connection
+from oracle.connection import PATIENCE, Connection
 from oracle.messages import Info
 from oracle.records import SECOND, Record, cut_at, elapsed, ends
 KEYS = ("command", "runargv", "runuser", "submituser", "submithost", "submitcwd")
@@ -207,7 +208,7 @@ class Trial:
     def sendlog(self, *words: str, status: int = 0) -> str:
         """What sudo_sendlog says, which must end with this status."""
         child = subprocess.run([servers.tool("sudo_sendlog"), "-h", "127.0.0.1", "-p", str(self.tap.port), *words],
-            capture_output=True, text=True, timeout=60, check=False)
+            capture_output=True, text=True, timeout=PATIENCE, check=False)
         same(f"status of sudo_sendlog {words}: {child.stdout} {child.stderr}", child.returncode, status)
         return child.stdout
 
@@ -215,11 +216,11 @@ class Trial:
         """What the clients of so many connections sent, once all have ended."""
         return [tap.Sent(pair) for pair in self.tap.settled(count)]
 
-    def connect(self, timeout: float = 30) -> Connection:
+    def connect(self, timeout: float = PATIENCE) -> Connection:
         """A connection of our own client."""
         return client.connect(self.tap.port, timeout)
 
-    def direct(self, timeout: float = 30) -> Connection:
+    def direct(self, timeout: float = PATIENCE) -> Connection:
         """A connection that isn't kept."""
         return client.connect(self.server.port, timeout)
 
@@ -276,7 +277,7 @@ class Namespace:
 
     def without(self, command: Sequence[str], given: bytes) -> Run:
         """Runs it without a terminal."""
-        child = subprocess.run(command, input=given, capture_output=True, timeout=60, check=False, cwd="/",
+        child = subprocess.run(command, input=given, capture_output=True, timeout=PATIENCE, check=False, cwd="/",
             start_new_session=True)
         return child.returncode, child.stdout, child.stderr
 
@@ -286,7 +287,7 @@ class Namespace:
         if pid == 0:
             os.chdir("/")
             os.execvp(command[0], command)
-        shown, end = b"", time.monotonic() + 60
+        shown, end = b"", time.monotonic() + PATIENCE
         while time.monotonic() < end:
             if select.select([terminal], [], [], 0.05)[0]:
                 try:

@@ -9,6 +9,9 @@ from oracle.messages import read_server
 from oracle.wire import Frames
 
 Answer = tuple[str, Any]
+# How many seconds a client waits for an answer before it calls the server wrong. An answer comes within milliseconds,
+# and on a busy machine with a slow disk within some seconds.
+PATIENCE = 180.0
 
 
 class Closed(Exception):
@@ -18,7 +21,7 @@ class Closed(Exception):
 class Connection:
     """A connection to a server, by a socket of a port, or by one end of a pair whose other end a program has."""
 
-    def __init__(self, link: socket.socket, timeout: float = 30) -> None:
+    def __init__(self, link: socket.socket, timeout: float = PATIENCE) -> None:
         """`timeout` is in seconds."""
         self.link = link
         self.link.settimeout(timeout)
@@ -66,7 +69,7 @@ class Connection:
         while not self.got:
             left = end - time.monotonic()
             if left <= 0:
-                raise TimeoutError("no answer of the server")
+                raise TimeoutError(f"no answer of the server in {self.timeout:.0f} s")
             self.pull(left)
         return self.got.pop(0)
 
@@ -84,7 +87,7 @@ class Connection:
         self.link.close()
 
 
-def connect(port: int, timeout: float = 30) -> Connection:
+def connect(port: int, timeout: float = PATIENCE) -> Connection:
     """A connection to a port of 127.0.0.1."""
     link = socket.create_connection(("127.0.0.1", port), timeout=timeout)
     link.setsockopt(socket.IPPROTO_TCP, socket.TCP_NODELAY, 1)

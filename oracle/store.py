@@ -1,12 +1,13 @@
 """A store byte by byte, as docs/FORMATS.md has it: read and written.
 
-usage: python3 -m oracle.store DIR [LINES]
+usage: python3 -m oracle.store DIR [LINES ...]
 
-It reads each log of the folder DIR and, if LINES is given, the event log, and prints a line for each. It ends with 1 if
-a part of the store is damaged, or if a count or an elapsed time of a journal isn't that of its lines.
+It reads each log of the folder DIR and each event log LINES, and prints a line for each. It ends with 1 if a part of
+the store is damaged, or if a count or an elapsed time of a journal isn't that of its lines.
 """
 from __future__ import annotations
 
+import argparse
 import dataclasses
 import os
 import re
@@ -15,25 +16,20 @@ from collections.abc import Iterable, Mapping, Sequence
 from typing import Any
 
 from oracle import lines as json_lines
+from oracle.journals import (
+    KINDS, LOG_BODY, NUMBERS_BODY, PARTS, Body, body_of, contents, digits_of, entry, folder_of, last_entry, number_of,
+    numbers, old_entry, slots_entry,
+)
 from oracle.records import STREAMS, Damaged, Record, elapsed, records_of, stream_of, timing_of
 
-DIGITS = "0123456789ABCDEFGHIJKLMNOPQRSTUVWXYZ"
-PARTS = ("log.json", "exit.json", "timing") + STREAMS
-KINDS = ("made", "flushed", "cut", "complete")
+__all__ = [
+    "COMPLETE", "CUT", "FLUSHED", "KINDS", "LOG_BODY", "MADE", "NUMBERS_BODY", "PARTS", "Body", "Damaged", "Log",
+    "body_of", "body_text", "committed", "contents", "digits_of", "entry", "files_of", "folder_of", "folders",
+    "last_entry", "lines", "log_body", "main", "number_of", "numbers", "numbers_body", "old_entry", "old_journal",
+    "read_log", "slots_entry", "slots_text", "write_files", "write_log", "write_numbers",
+]
+
 MADE, FLUSHED, CUT, COMPLETE = range(4)
-LOG_BODY = 89
-NUMBERS_BODY = 12
-
-
-@dataclasses.dataclass
-class Body:
-    """What the last entry of a journal says of a log, an event log or a relaying."""
-
-    kind: str
-    count: int
-    elapsed: int
-    lengths: tuple[int, ...]
-    extra: int
 
 
 @dataclasses.dataclass
@@ -52,35 +48,12 @@ class Log:
         return self.body.kind == "complete"
 
 
-# ---- names
-
-
-def digits_of(number: int) -> str:
-    """The six digits of a log's number in base 36."""
-    return "".join(DIGITS[number // 36**place % 36] for place in range(5, -1, -1))
-
-
-def number_of(digits: str) -> int:
-    """The number of six digits."""
-    return int(digits, 36)
-
-
-def folder_of(store: str, digits: str) -> str:
-    """The folder of a log."""
-    return os.path.join(store, digits[0:2], digits[2:4], digits[4:6])
-
-
 # ---- journals
 
 
 def integers(numbers: Iterable[int], size: int) -> bytes:
     """Numbers of so many bytes each, the highest byte first."""
     return b"".join(number.to_bytes(size, "big") for number in numbers)
-
-
-def read_integers(text: bytes, size: int) -> tuple[int, ...]:
-    """The numbers of so many bytes each that a text has."""
-    return tuple(int.from_bytes(text[at : at + size], "big") for at in range(0, len(text), size))
 
 
 def slots_text(body: bytes, other: bytes = b"") -> bytes:
@@ -93,34 +66,6 @@ def old_journal(bodies: Iterable[bytes]) -> bytes:
     return b"".join(b"\x01" + body for body in bodies) + b"\x00"
 
 
-def slots_entry(text: bytes, size: int) -> bytes | None:
-    """The selected slot of a journal of two slots, or None if it has no entry."""
-    if len(text) < 2 or text[0] != 1:
-        return None
-    at = 2 + size if text[1] == 1 else 2
-    return text[at : at + size] if len(text) >= at + size else None
-
-
-def old_entry(text: bytes, size: int) -> bytes | None:
-    """The last entry of a journal of an older store, or None."""
-    last, at = None, 0
-    while at + size + 2 <= len(text) and text[at] == 1:
-        last = text[at + 1 : at + 1 + size]
-        at += size + 1
-    return last
-
-
-def last_entry(slots: bytes, old: bytes, size: int) -> bytes | None:
-    """The last entry of an owner with the texts of these two journals, or None."""
-    found = slots_entry(slots, size)
-    return old_entry(old, size) if found is None else found
-
-
-def entry(slots: str, old: str, size: int) -> bytes | None:
-    """The last entry of an owner with these two journal files, or None."""
-    return last_entry(contents(slots), contents(old), size)
-
-
 def log_body(kind: int, count: int, spent: int, lengths: Sequence[int], extra: int = 0) -> bytes:
     """The body of a log, an event log or a relaying."""
     return bytes([kind]) + integers([count, spent, *lengths, *[0] * (len(PARTS) - len(lengths)), extra], 8)
@@ -129,14 +74,6 @@ def log_body(kind: int, count: int, spent: int, lengths: Sequence[int], extra: i
 def body_text(kind: int, records: Sequence[Record], files: Mapping[str, bytes], extra: int = 0) -> bytes:
     """The body of a log with these records and data files."""
     return log_body(kind, len(records), elapsed(records), [len(files[part]) for part in PARTS], extra)
-
-
-def body_of(text: bytes) -> Body:
-    """What a body of a log, an event log or a relaying says."""
-    count, spent, *lengths, extra = read_integers(text[1:LOG_BODY], 8)
-    if text[0] >= len(KINDS):
-        raise Damaged(f"a journal's entry has the kind {text[0]}")
-    return Body(KINDS[text[0]], count, spent, tuple(lengths), extra)
 
 
 def numbers_body(last: int, lane: int = 0, lanes: int = 1) -> bytes:
@@ -180,15 +117,6 @@ def write_numbers(store: str, last: int, lane: int = 0, lanes: int = 1) -> None:
 
 
 # ---- read
-
-
-def contents(path: str) -> bytes:
-    """The bytes of a file, none if it is absent."""
-    try:
-        with open(path, "rb") as file:
-            return file.read()
-    except FileNotFoundError:
-        return b""
 
 
 def committed(path: str, length: int) -> bytes:
@@ -236,13 +164,6 @@ def read_exit(folder: str, body: Body, text: bytes) -> dict[str, Any] | None:
     return ended
 
 
-def numbers(store: str, lane: int = 0) -> tuple[int, ...] | None:
-    """The last drawn number, the lane and the number of lanes of a number file; None if there is none."""
-    suffix = f".{lane}" if lane else ""
-    found = entry(os.path.join(store, "seq2" + suffix), os.path.join(store, "seq" + suffix), NUMBERS_BODY)
-    return None if found is None else read_integers(found, 4)
-
-
 def folders(store: str) -> list[str]:
     """The digits of each folder of a log, in order."""
     found = []
@@ -281,7 +202,11 @@ def shown_log(store: str, digits: str) -> str:
 
 def main() -> int:
     """Prints a line for each log and for the event log."""
-    store, damaged = sys.argv[1], 0
+    words = argparse.ArgumentParser(description=__doc__, formatter_class=argparse.RawDescriptionHelpFormatter)
+    words.add_argument("store", metavar="DIR")
+    words.add_argument("events", metavar="LINES", nargs="*")
+    args = words.parse_args()
+    store, damaged = args.store, 0
     for digits in folders(store):
         try:
             print(f"{digits}: {shown_log(store, digits)}")
@@ -289,7 +214,7 @@ def main() -> int:
             damaged += 1
             print(f"{digits}: {fault}")
     print(f"numbers: {numbers(store)}")
-    for path in sys.argv[2:]:
+    for path in args.events:
         try:
             print(f"{path}: {len(lines(path) or [])} lines")
         except Damaged as fault:
