@@ -13,6 +13,7 @@ it is run in. The syncs of a log are counted by strace, where it is there.
 """
 from __future__ import annotations
 
+import argparse
 import os
 import resource
 import shutil
@@ -23,6 +24,7 @@ import tempfile
 import time
 from collections.abc import Iterable, Iterator
 
+import at_root
 from oracle import messages
 from oracle.wire import LARGEST, field, frame
 
@@ -340,7 +342,11 @@ def measure_syncs(meter: str) -> None:
 
 def main() -> None:
     """All measures."""
-    program, meter = (os.path.abspath(it) for it in sys.argv[1:3])
+    words = argparse.ArgumentParser(description=__doc__, formatter_class=argparse.RawDescriptionHelpFormatter)
+    words.add_argument("program", type=os.path.abspath)
+    words.add_argument("messages", type=os.path.abspath)
+    args = words.parse_args()
+    program, meter = args.program, args.messages
     measure_sessions(program)
     measure_crowds(program)
     measure_messages(meter)

@@ -15,6 +15,7 @@ import tempfile
 import time
 from collections.abc import Sequence
 
+import at_root
 import serve
 from interop import client, servers
 from oracle.records import SECOND
@@ -101,7 +102,7 @@ def spent(pid: int) -> float:
 
 def main() -> None:
     """All measures that are asked for."""
-    words = argparse.ArgumentParser(description=__doc__)
+    words = argparse.ArgumentParser(description=__doc__, formatter_class=argparse.RawDescriptionHelpFormatter)
     words.add_argument("program")
     words.add_argument("--before")
     words.add_argument("--disk", default=".")

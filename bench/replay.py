@@ -11,6 +11,7 @@ its stands behind them.
 """
 from __future__ import annotations
 
+import argparse
 import os
 import shutil
 import subprocess
@@ -18,6 +19,7 @@ import sys
 import tempfile
 from collections.abc import Callable, Sequence
 
+import at_root
 from bench import watched
 from interop import servers
 from oracle import lines, store
@@ -97,8 +99,11 @@ def beside(name: str, program: str, peer: str, words: Sequence[str]) -> None:
 
 def main() -> None:
     """All measures."""
-    program = os.path.realpath(sys.argv[1])
-    peer = sys.argv[2] if len(sys.argv) > 2 else servers.tool("sudoreplay")
+    words = argparse.ArgumentParser(description=__doc__, formatter_class=argparse.RawDescriptionHelpFormatter)
+    words.add_argument("program", type=os.path.realpath)
+    words.add_argument("peer", nargs="?", default=servers.tool("sudoreplay"))
+    args = words.parse_args()
+    program, peer = args.program, args.peer
     measure("a log of a listing", program, lambda folder, n: many_logs(folder, n, False), LOGS, ["-l"])
     measure("a log of a search by command", program, lambda folder, n: many_logs(folder, n, False), LOGS,
         ["-l", "command", "^/bin"])

@@ -22,6 +22,7 @@ import threading
 import time
 from collections.abc import Callable, Iterable, Sequence
 
+import at_root
 from interop import client, servers
 from oracle.records import SECOND
 
@@ -313,7 +314,7 @@ def measure_linear(program: str) -> None:
 
 def main() -> None:
     """All measures that are asked for."""
-    words = argparse.ArgumentParser(description=__doc__)
+    words = argparse.ArgumentParser(description=__doc__, formatter_class=argparse.RawDescriptionHelpFormatter)
     words.add_argument("program")
     words.add_argument("--peer", default=servers.tool("sudo_logsrvd"))
     words.add_argument("--disk", default=".")

@@ -3,6 +3,7 @@ from __future__ import annotations
 
 from typing import Any
 
+import at_root
 from oracle import lines
 from oracle.records import SECOND, STREAMS, line_of
 from oracle.store import PARTS, body_text as body_of, digits_of, files_of, write_log, write_numbers
