@@ -1,9 +1,6 @@
 # `make help` lists the targets. `make run` shows the programs in minutes, unproved; `make` proves and builds them;
 # `make install` installs what `make` built, and proves nothing.
 
-# the scripts of bench/ and interop/ find oracle/ by it
-export PYTHONPATH = $(CURDIR)
-
 VERSION = 0.1.0
 NAME = lithiumfinch
 
@@ -26,6 +23,7 @@ PROGRAM = $(CRATE)/out/sudo_logsrvd
 REPLAY_CRATE = crates/sudoreplay
 REPLAY = $(REPLAY_CRATE)/out/sudoreplay
 SENDLOG = crates/sudo_sendlog/out/sudo_sendlog
+LOGCHECK = crates/sudo_logcheck/out/sudo_logcheck
 MEASURES = crates/lsvt_bench
 
 # Programs that were built without a proof, for a first look: `make run` alone uses them.
@@ -36,25 +34,30 @@ SOURCES = crates.txt $(shell find crates -name out -prune -o -name '*.rt' -print
 N ?= 50
 AS ?= serve
 
+# Scripts of contrib/ that use oracle/: each is installed as one file that stands alone, with its page.
+SCRIPTS = sudo-cast sudo-grep sudo-layout sudo-logseal sudo-metrics sudo-prune
+
 INSTALLED = \
 	$(SBINDIR)/$(FRONT)sudo_logsrvd \
 	$(BINDIR)/$(FRONT)sudoreplay \
 	$(BINDIR)/$(FRONT)sudo_sendlog \
-	$(BINDIR)/$(FRONT)sudo-layout \
+	$(BINDIR)/$(FRONT)sudo_logcheck \
+	$(addprefix $(BINDIR)/$(FRONT),$(SCRIPTS)) \
 	$(UNITDIR)/$(FRONT)sudo_logsrvd.service \
 	$(UNITDIR)/$(FRONT)sudo_logsrvd-relay.service \
 	$(UNITDIR)/$(FRONT)sudo_logsrvd-relay.timer \
 	$(SYSUSERSDIR)/$(NAME).conf \
-	$(MANDIR)/man1/$(FRONT)sudo-layout.1 \
+	$(addprefix $(MANDIR)/man1/$(FRONT),$(addsuffix .1,$(SCRIPTS))) \
 	$(MANDIR)/man8/$(FRONT)sudo_logsrvd.8 \
 	$(MANDIR)/man8/$(FRONT)sudoreplay.8 \
 	$(MANDIR)/man8/$(FRONT)sudo_sendlog.8 \
+	$(MANDIR)/man8/$(FRONT)sudo_logcheck.8 \
 	$(MANDIR)/man5/$(FRONT)sudo_logsrvd.conf.5
 
 PAGES = README.md CHANGELOG.md LICENSE bench/RESULTS.md \
-	$(addprefix docs/,ARCHITECTURE.md CONTRIBUTING.md DECISIONS.md FORMATS.md OPERATIONS.md PROOFS.md SETTINGS.md SPEC.md TRUST.md)
+	$(addprefix docs/,ARCHITECTURE.md COMING_FROM_SUDO.md CONTRIBUTING.md DECISIONS.md FORMATS.md OPERATIONS.md PROOFS.md SETTINGS.md SPEC.md TRUST.md)
 
-.PHONY: all help prove build run run-proved test check wrong-bodies measures bench interop drill power install uninstall installed pages dist clean
+.PHONY: all help prove build run run-proved test check wrong-bodies rows measures bench interop drill power install uninstall installed pages dist clean
 
 all: prove
 
@@ -65,6 +68,7 @@ prove build: ## prove and build the programs (an hour or more at first)
 	@bash tools/prove sudo_logsrvd once -f data/conf
 	@bash tools/prove sudoreplay -d data/store -l
 	@bash tools/prove sudo_sendlog
+	@bash tools/prove sudo_logcheck
 
 $(QUICK)/sudo_logsrvd: $(SOURCES) tools/quick-build
 	@bash tools/quick-build $(QUICK) sudo_logsrvd sudoreplay
@@ -98,15 +102,19 @@ wrong-bodies: ## try the wrong bodies that the gate leaves out; with names of cr
 measures:
 	cd $(MEASURES) && rt run -- decode >/dev/null
 
+rows: ## write the cases of the programs of rows again, after a change of a rows.py
+	bash tools/rows --write
+
 bench: build measures ## measure, also beside sudo's own server if it is installed
 	python3 bench/bench.py $(PROGRAM) $(MEASURES)/out/lsvt_bench
 	python3 bench/replay.py $(REPLAY)
+	python3 bench/check.py $(LOGCHECK)
 	python3 bench/serve.py $(PROGRAM)
 	python3 bench/sendlog.py $(PROGRAM) $(SENDLOG)
 	python3 bench/relay.py $(PROGRAM)
 
-interop: build ## try the programs with sudo's own clients
-	bash interop/run once serve
+interop: build ## try the programs with sudo's own clients; with ONLY=WORD, the parts of that name
+	ONLY=$(ONLY) bash interop/run once serve $(if $(ONLY),installed)
 
 drill: build ## kill the server N times under load, and read the store after each
 	python3 interop/drill.py --server $(PROGRAM) --as $(AS) --kills $(N)
@@ -116,24 +124,33 @@ power: build measures ## the same on file systems whose power is cut, as root
 
 # The settings are put in place if there are none, and are never overwritten.
 install: ## install what `make` proved and built; it proves nothing
-	@for program in $(PROGRAM) $(REPLAY) $(SENDLOG); do \
+	@for program in $(PROGRAM) $(REPLAY) $(SENDLOG) $(LOGCHECK); do \
 	  [ -x $$program ] || { echo "make install: $$program is missing: run make first, as another user than root. Programs of 'make run' are not proved, and are not installed." >&2; exit 1; }; \
 	done
 	install -D -m 755 $(PROGRAM) $(DESTDIR)$(SBINDIR)/$(FRONT)sudo_logsrvd
 	install -D -m 755 $(REPLAY) $(DESTDIR)$(BINDIR)/$(FRONT)sudoreplay
 	install -D -m 755 $(SENDLOG) $(DESTDIR)$(BINDIR)/$(FRONT)sudo_sendlog
-	install -D -m 755 contrib/sudo-layout $(DESTDIR)$(BINDIR)/$(FRONT)sudo-layout
-	install -D -m 644 man/sudo-layout.1 $(DESTDIR)$(MANDIR)/man1/$(FRONT)sudo-layout.1
+	install -D -m 755 $(LOGCHECK) $(DESTDIR)$(BINDIR)/$(FRONT)sudo_logcheck
+	for script in $(SCRIPTS); do \
+	  PYTHONDONTWRITEBYTECODE=1 python3 -m oracle.alone contrib/$$script >$(DESTDIR)$(BINDIR)/$(FRONT)$$script && \
+	  chmod 755 $(DESTDIR)$(BINDIR)/$(FRONT)$$script && \
+	  install -D -m 644 man/$$script.1 $(DESTDIR)$(MANDIR)/man1/$(FRONT)$$script.1 || exit 1; \
+	done
 	install -D -m 644 man/sudo_logsrvd.8 $(DESTDIR)$(MANDIR)/man8/$(FRONT)sudo_logsrvd.8
 	install -D -m 644 man/sudoreplay.8 $(DESTDIR)$(MANDIR)/man8/$(FRONT)sudoreplay.8
 	install -D -m 644 man/sudo_sendlog.8 $(DESTDIR)$(MANDIR)/man8/$(FRONT)sudo_sendlog.8
+	install -D -m 644 man/sudo_logcheck.8 $(DESTDIR)$(MANDIR)/man8/$(FRONT)sudo_logcheck.8
 	install -D -m 644 man/sudo_logsrvd.conf.5 $(DESTDIR)$(MANDIR)/man5/$(FRONT)sudo_logsrvd.conf.5
 	install -d $(DESTDIR)$(DOCDIR)/examples
 	install -m 644 $(PAGES) $(DESTDIR)$(DOCDIR)
 	install -m 644 crates/README.md $(DESTDIR)$(DOCDIR)/CRATES.md
-	sed -i -e 's#](docs/#](#g' -e 's#](\.\./docs/#](#g' -e 's#](\(\.\./\)\?bench/#](#g' -e 's#](\(\.\./\)\?crates/README#](CRATES#g' \
+	sed -i -e 's#](docs/#](#g' -e 's#](\.\./docs/#](#g' -e 's#](\(\.\./\)\?bench/#](#g' -e 's#](\(\.\./\)\?crates/README#](CRATES#g' -e 's#](\.\./README#](README#g' \
 	  $(addprefix $(DESTDIR)$(DOCDIR)/,$(notdir $(filter %.md,$(PAGES))) CRATES.md)
-	install -m 644 etc/sudo_logsrvd.conf etc/tmpfiles etc/proxy.socket $(DESTDIR)$(DOCDIR)/examples
+	install -m 644 etc/sudo_logsrvd.conf etc/tmpfiles etc/proxy.socket etc/check.timer etc/prune.timer etc/seal.timer $(DESTDIR)$(DOCDIR)/examples
+	for sample in check prune seal; do \
+	  sed -e 's#/usr/local/bin/#$(BINDIR)/$(FRONT)#' -e 's#man:#man:$(FRONT)#' etc/$$sample.service >$(DESTDIR)$(DOCDIR)/examples/$$sample.service && \
+	  chmod 644 $(DESTDIR)$(DOCDIR)/examples/$$sample.service || exit 1; \
+	done
 	for sample in logrotate proxy.service; do \
 	  sed -e 's#\(systemctl .*\|=\)\bsudo_logsrvd\b#\1$(FRONT)sudo_logsrvd#' etc/$$sample >$(DESTDIR)$(DOCDIR)/examples/$$sample && \
 	  chmod 644 $(DESTDIR)$(DOCDIR)/examples/$$sample || exit 1; \
@@ -157,10 +174,10 @@ uninstall: ## remove what `make install` put in place, but the settings; no stor
 	rm -rf $(DESTDIR)$(DOCDIR)
 
 installed: ## try an installed tree, in a folder of its own
-	bash interop/installed $(PROGRAM) $(REPLAY) $(SENDLOG)
+	bash interop/installed $(PROGRAM) $(REPLAY) $(SENDLOG) $(LOGCHECK)
 
 pages: ## check the manual pages against what the programs take and say
-	python3 interop/pages.py $(PROGRAM) $(REPLAY) $(SENDLOG)
+	python3 interop/pages.py $(PROGRAM) $(REPLAY) $(SENDLOG) $(LOGCHECK)
 
 # Of what is committed; in an unpacked tarball, of what is there without what was built.
 dist: ## make a tarball in out/
