@@ -121,8 +121,15 @@ def tried(audit: Audit) -> None:
     status_is("without sudo", 5, parts.run(*AS_AUDITOR, player, "-d", logs, "000001"))
     same("the store", contents(logs), before)
     same("modes", {stat.S_IMODE(os.stat(path).st_mode) for path in before}, {0o600})
-    said = [line for line in store.lines(audit.place.events) or [] if b'"submituser":"daemon"' in line]
+    # sudo doesn't wait until its event is taken
+    parts.until("event lines of the seven commands that ran", lambda: len(said_of_auditor(audit)) >= 7)
+    said = said_of_auditor(audit)
     same("event lines of the seven commands that ran", (len(said), b'"iolog"' in b"".join(said)), (7, False))
+
+
+def said_of_auditor(audit: Audit) -> list[bytes]:
+    """The event lines of the auditor's commands."""
+    return [line for line in store.lines(audit.place.events) or [] if b'"submituser":"daemon"' in line]
 
 
 if __name__ == "__main__":

@@ -142,6 +142,12 @@ def stored(server: servers.Serve, records: list[Record], is_whole: bool) -> None
     link.close()
 
 
+def logs_of(on: Guarded) -> list[store.Log]:
+    """The logs of our server."""
+    found = [store.read_log(on.store, digits) for digits in store.folders(on.store)]
+    return [log for log in found if log]
+
+
 def came_in(on: Guarded, old: str) -> None:
     """The page's lines send each session of the old folder."""
     text = lines_of("How old sessions come in")
@@ -150,7 +156,9 @@ def came_in(on: Guarded, old: str) -> None:
         text = text.replace(name, value)
     done = status_is("lines", 0, run("bash", "-c", text))
     same("what they say", (done.stdout, done.stderr), (b"", b""))
-    logs = [store.read_log(on.store, digits) for digits in store.folders(on.store)]
+    # sudo's own sender doesn't wait until the exit is taken
+    parts.until("whole sessions", lambda: [log.is_complete() for log in logs_of(on)] == [True] * len(RECORDS))
+    logs = logs_of(on)
     same("records", [log.records for log in logs if log], RECORDS)
     same("exits", [(log.exit or {}).get("exit_value") for log in logs if log], [4, 4, 0])
     same("command", {log.info["command"] for log in logs if log}, {"/usr/bin/id"})

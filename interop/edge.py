@@ -9,6 +9,7 @@ isn't there. It ends with 1 where something differs.
 from __future__ import annotations
 
 import argparse
+import contextlib
 import ctypes
 import fcntl
 import json
@@ -53,7 +54,7 @@ def part_many_sessions_few_descriptors(program: str, _: str) -> None:
     with Guarded(program) as on:
         on.server.before = limit_of(256)
         on.start()
-        same("identifiers", on.sessions(400)[-1], "0000B4")
+        same("identifiers", on.sessions_in_turn(400)[-1], "0000B4")
         differ = []
         threads = [threading.Thread(target=lambda: differ.append(tried(on))) for _ in range(100)]
         for thread in threads:
@@ -313,6 +314,8 @@ def full_event_log(on: Guarded) -> str:
     same("whether it was full", on.place.said().count("write: No space left on device") >= 4, True)
     for path in logs:
         check_lines(path)
+    # so that tail has seen the end before more follows
+    time.sleep(1)
     os.remove(filler)
     given = [session(on.server.connect()) for _ in range(8)]
     for path in logs:
@@ -456,8 +459,11 @@ def sockets_of(pid: int, port: int) -> list[str]:
     with open("/proc/net/tcp", encoding="ascii") as file:
         rows = [line.split() for line in file.readlines()[1:]]
     at_port = {row[9] for row in rows if row[1].endswith(f":{port:04X}") and row[3] != LISTENS}
-    places = [f"/proc/{pid}/fd/{number}" for number in os.listdir(f"/proc/{pid}/fd")]
-    names = [os.readlink(place) for place in places if os.path.lexists(place)]
+    names = []
+    for number in os.listdir(f"/proc/{pid}/fd"):
+        # one may be closed meanwhile
+        with contextlib.suppress(FileNotFoundError):
+            names.append(os.readlink(f"/proc/{pid}/fd/{number}"))
     return [name for name in names if name.removeprefix("socket:[").removesuffix("]") in at_port]
 
 
@@ -483,9 +489,9 @@ def turns_of_a_held_link(on: Guarded) -> str:
     ends, left = time.monotonic() + PATIENCE, b""
     while time.monotonic() < ends:
         left = sent_until_held(link, left, record, ends)
-        before = sleeps_of(on.server.process.pid)
+        before, began = sleeps_of(on.server.process.pid), time.monotonic()
         time.sleep(2)
-        turns = (sleeps_of(on.server.process.pid) - before) // 2
+        turns = round((sleeps_of(on.server.process.pid) - before) / (time.monotonic() - began))
         try:
             # a link that takes more was not held, and its server was slow
             left = left[link.send(left):]

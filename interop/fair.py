@@ -161,6 +161,20 @@ def waited(link, wanted):
             raise TimeoutError
 
 
+def greeted(port):
+    """A new client's connection, whose hello came. While a crowd has all places it is refused, or reset, and tries again."""
+    end = time.monotonic() + MOST
+    while True:
+        try:
+            link = client.connect(port, MOST)
+            waited(link, "hello")
+            return link
+        except (ConnectionRefusedError, ConnectionResetError, client.Closed):
+            if time.monotonic() > end:
+                raise TimeoutError from None
+        time.sleep(0.001)
+
+
 class Times:
     """How long new clients waited, in milliseconds. A wait that was given up counts as endless."""
 
@@ -175,8 +189,7 @@ class Times:
         """A new client: a hello, an accept, records one by one, and an exit."""
         kind, began = "hello", time.monotonic()
         try:
-            link = client.connect(port, MOST)
-            waited(link, "hello")
+            link = greeted(port)
             kind = self.note(kind, began, "identifier")
             link.send(accepted())
             waited(link, "log_id")

@@ -80,6 +80,10 @@ class Guarded:
         """So many whole sessions are stored. Gives their identifiers."""
         return [session(self.server.connect()) for _ in range(count)]
 
+    def sessions_in_turn(self, count):
+        """The same where there are few places: one may be taken for a while after its client has read the end."""
+        return [session_in_turn(self.server) for _ in range(count)]
+
     def stop(self):
         self.server.kill()
 
@@ -646,7 +650,7 @@ def part_few_descriptors(program):
             on.server.before = limit_of(count)
             told = len(on.place.said()) if os.path.exists(on.place.errors) else 0
             on.server.start()
-            on.sessions(20)
+            on.sessions_in_turn(20)
             on.stop()
             said = on.place.said()[told:]
             same(f"faults with {count}: {said!r}", "Too many" in said, False)

@@ -362,7 +362,8 @@ def part_removed_meanwhile(on: Programs) -> None:
     with Place(on, FEW, STILL) as place:
         folder = store.folder_of(place.store, place.logs[0])
         honest = Honest()
-        server = Server(FEW, (*BEGUN, takes("ttyout"), lambda _: shutil.rmtree(folder), says(point(1.5)), ends_it),
+        gone = os.path.join(place.folder, "gone")
+        server = Server(FEW, (*BEGUN, takes("ttyout"), lambda _: os.rename(folder, gone), says(point(1.5)), ends_it),
             [honest.step])
         run = place.relay(server.port)
         same(f"status, {run.said}", run.status, PENDING)
@@ -544,7 +545,9 @@ def hand_on(source: socket.socket, target: socket.socket) -> None:
             target.sendall(piece)
         target.shutdown(socket.SHUT_WR)
     except OSError:
-        pass
+        # a reset of one side ends the other
+        with contextlib.suppress(OSError):
+            target.shutdown(socket.SHUT_RDWR)
 
 
 def part_server_killed_when_it_is_kept(on: Programs) -> None:

@@ -28,6 +28,8 @@ from trial import SECOND, Differs, same
 
 # the places of four workers
 PLACES = 512
+# the system may let so many clients connect beside the last place, whose handshakes end at the same time
+MOST_BESIDE = 4
 # the longest wait of a client beside idle ones, in seconds: what a slow machine takes, and not what it should take
 LONGEST = 60.0
 # what a client meets where nobody listens, or where the listening ends while it connects
@@ -51,6 +53,19 @@ def greeted(links: list[client.Connection]) -> None:
         same("the answer", link.read()[0], "hello")
 
 
+def served(links: list[client.Connection]) -> list[client.Connection]:
+    """Those that get a hello. The system resets after some seconds what it let connect beside the last place."""
+    kept = []
+    for link in links:
+        try:
+            same("the answer", link.read()[0], "hello")
+            kept.append(link)
+        except client.Closed as fault:
+            same(f"a connection that ended: {fault}", isinstance(fault.__cause__, ConnectionResetError), True)
+            link.close()
+    return kept
+
+
 def is_refused(port: int) -> bool:
     """Whether the system refuses a connection, or ends it before the server has taken it."""
     try:
@@ -61,11 +76,13 @@ def is_refused(port: int) -> bool:
 
 
 def has_session(on: Guarded) -> bool:
-    """Stores a session, if the server takes its connection."""
+    """Stores a session, if the server takes its connection, as its hello shows."""
     try:
-        session(on.server.connect())
-    except ConnectionRefusedError:
+        link = on.server.connect()
+        link.pull(PATIENCE)
+    except (*REFUSALS, client.Closed):
         return False
+    session(link)
     return True
 
 
@@ -73,14 +90,16 @@ def part_more_clients_than_places(program: str) -> None:
     """600 clients connect at once: 512 are served, and the others refused, so that each goes to its other server."""
     with Guarded(program) as on:
         on.start()
-        links, refused = connected(on.place.port, 600)
-        same("clients that are connected and refused", (len(links), refused), (PLACES, 600 - PLACES))
-        greeted(links)
+        asked, refused = connected(on.place.port, 600)
+        links = served(asked)
+        same("clients that are served", len(links), PLACES)
+        same("clients that are refused", refused >= 600 - PLACES - MOST_BESIDE, True)
         for _ in range(20):
             same("a further client is refused", is_refused(on.place.port), True)
-        said = [line for line in on.place.said().splitlines() if "clients are connected" in line]
         wanted = f"sudo_logsrvd: {PLACES} clients are connected, which is as many as are served: further ones are" \
             f" refused until one leaves; see who they are by ss -tn 'sport = :{on.place.port}'"
+        until("it is said", lambda: f"{wanted}\n" in on.place.said())
+        said = [line for line in on.place.said().splitlines() if "clients are connected" in line]
         same("what is said, once", said, [wanted])
         links.pop().close()
         until("a client that comes when one has left is served", lambda: has_session(on))
@@ -155,6 +174,21 @@ def resumed(on: Guarded, number: str, point: int) -> None:
     ended(link)
 
 
+def read_until(reader: int, words: str) -> str:
+    """What comes through a pipe, through these words."""
+    said = ""
+
+    def has_words() -> bool:
+        """Reads what has come."""
+        nonlocal said
+        if select.select([reader], [], [], 0)[0]:
+            said += os.read(reader, 4096).decode()
+        return words in said
+
+    until(f"{words!r} is said", has_words)
+    return said
+
+
 def part_stopped_reader_of_standard_error(program: str) -> None:
     """A full pipe as standard error stops no session. The lines that were left out are counted, and said later."""
     with Guarded(program) as on:
@@ -164,8 +198,7 @@ def part_stopped_reader_of_standard_error(program: str) -> None:
         child = subprocess.Popen(words, stdin=subprocess.DEVNULL, stdout=subprocess.DEVNULL, stderr=writer)
         on.running.append(child)
         on.server.process = child
-        until("the server listens", lambda: select.select([reader], [], [], 0)[0])
-        said = os.read(reader, 4096).decode()
+        read_until(reader, "listening on")
         os.set_blocking(writer, False)
         try:
             while True:
@@ -187,11 +220,7 @@ def part_stopped_reader_of_standard_error(program: str) -> None:
         while select.select([reader], [], [], 0.2)[0]:
             os.read(reader, 4096)
         resumed(on, number, 6 * SECOND)
-        until("a line comes", lambda: select.select([reader], [], [], 0)[0])
-        time.sleep(0.2)
-        said += os.read(reader, 4096).decode()
-        if "sudo_logsrvd: 5 lines were left out, since standard error took none" not in said:
-            raise Differs(f"what was said: {said!r}")
+        read_until(reader, "sudo_logsrvd: 5 lines were left out, since standard error took none\n")
         os.close(reader)
         os.close(writer)
 

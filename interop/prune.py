@@ -242,10 +242,21 @@ def part_progress(tried: Tried) -> None:
         ours, its = pty.openpty()
         done = subprocess.run([tried.check, "-d", on.store], stdout=subprocess.PIPE, stderr=its, check=False)
         os.close(its)
-        shown = os.read(ours, 4096).decode()
+        shown = shown_on(ours)
         os.close(ours)
         same("the line", shown, "\rchecking log 000001, 1 of 3\x1b[K\r\x1b[K")
         same("the lines of the logs", (done.returncode, done.stdout.count(b"\n")), (0, 4))
+
+
+def shown_on(terminal: int) -> str:
+    """All that a terminal shows that nobody writes to any more."""
+    shown = b""
+    try:
+        while piece := os.read(terminal, 4096):
+            shown += piece
+    except OSError:
+        pass
+    return shown.decode()
 
 
 def restarts(on: Guarded, stop: threading.Event, faults: list[str]) -> None:

@@ -9,6 +9,7 @@ sudo's own. Between both stands a port that may cut a connection. It ends with 1
 from __future__ import annotations
 
 import argparse
+import contextlib
 import os
 import random
 import shutil
@@ -95,7 +96,9 @@ class Cutter:
                 target.sendall(piece)
             target.shutdown(socket.SHUT_WR)
         except OSError:
-            pass
+            # a reset of one side ends the other
+            with contextlib.suppress(OSError):
+                target.shutdown(socket.SHUT_RDWR)
 
     def close(self) -> None:
         """Closes the port."""
@@ -530,7 +533,7 @@ def part_absent(on: Trial) -> None:
         took = time.monotonic() - began
         same("status", (status, "pending" in said), (0, False))
         same("logs at the other server", len(both.far_sessions()), 2)
-        if took > 10:
+        if took > 60:
             raise Differs(f"a run over {last} numbers took {took:.1f} s")
 
 

@@ -13,6 +13,7 @@ sent is from before, and the sender says so. It ends with 1 if something differs
 from __future__ import annotations
 
 import argparse
+import contextlib
 import os
 import shutil
 import socket
@@ -65,10 +66,14 @@ def waited(what: str, find: Callable[[], object], wanted: object) -> None:
 
 
 class Cut:
-    """A port that hands bytes on to a server, and ends both ways after some bytes of the client."""
+    """A port that hands bytes on to a server, and ends both ways after some bytes of the client.
 
-    def __init__(self, port: int, after: int) -> None:
+    It ends them once the server has said an identifier and a commit point, for which it waits this long after that.
+    """
+
+    def __init__(self, port: int, after: int, seconds: float) -> None:
         """One connection is served."""
+        self.seconds, self.said = seconds, set[str]()
         self.listener = socket.create_server(("127.0.0.1", 0))
         self.port = self.listener.getsockname()[1]
         self.server, self.after = port, after
@@ -85,18 +90,23 @@ class Cut:
         while left > 0 and (piece := client.recv(min(left, 4096))):
             server.sendall(piece)
             left -= len(piece)
-        # until a commit point had time to come
-        back.join(1.5)
+        for name, seconds in (("log_id", PATIENCE), ("commit_point", self.seconds)):
+            end = time.monotonic() + seconds
+            while name not in self.said and back.is_alive() and time.monotonic() < end:
+                time.sleep(0.01)
         for link in (client, server):
-            link.shutdown(socket.SHUT_RDWR)
+            with contextlib.suppress(OSError):
+                link.shutdown(socket.SHUT_RDWR)
             link.close()
 
-    @staticmethod
-    def hand_back(server: socket.socket, client: socket.socket) -> None:
+    def hand_back(self, server: socket.socket, client: socket.socket) -> None:
         """Hands on what the server sends."""
+        frames = wire.Frames()
         try:
             while piece := server.recv(4096):
                 client.sendall(piece)
+                for message in frames.feed(piece):
+                    self.said.add(messages.read_server(message)[0])
         except OSError:
             pass
 
@@ -117,9 +127,17 @@ class Try:
         same("status of sudo-layout", done.returncode, 0)
 
     def ours(self, port: int, *words: str, status: int = 0) -> list[str]:
-        """Runs our sender, and gives the lines that it prints."""
-        done = subprocess.run([self.program, "-d", self.store, "-h", "127.0.0.1", "-p", str(port), *words, IDENTIFIER],
-            capture_output=True, text=True, timeout=120, check=False)
+        """Runs our sender, and gives the lines that it prints.
+
+        It is run again while the server hasn't seen the end of the connection before, which still has the log.
+        """
+        end = time.monotonic() + PATIENCE
+        program = [self.program, "-d", self.store, "-h", "127.0.0.1", "-p", str(port), *words, IDENTIFIER]
+        while True:
+            done = subprocess.run(program, capture_output=True, text=True, timeout=PATIENCE, check=False)
+            if "log in use" not in done.stderr or time.monotonic() > end:
+                break
+            time.sleep(0.05)
         if done.returncode != status:
             raise Differs(f"our sudo_sendlog {words}: status {done.returncode}: {done.stdout}{done.stderr}")
         return done.stdout.splitlines()
@@ -129,7 +147,7 @@ class Try:
         peer = servers.tool("sudo_sendlog")
         folder = os.path.join(self.layout, "00", "00", "01")
         done = subprocess.run([str(peer), "-h", "127.0.0.1", "-p", str(port), *words, folder], capture_output=True,
-            text=True, timeout=120, check=False)
+            text=True, timeout=PATIENCE, check=False)
         same(f"status of sudo's sudo_sendlog, {done.stderr}", done.returncode, 0)
 
     def at_ours(self, part: Callable[[servers.Serve, servers.Place], None]) -> None:
@@ -214,24 +232,23 @@ def sends_events(on: Try) -> None:
         """With one server."""
         same("lines of an accept", on.ours(server.port, "-A"), [])
         same("lines of a reject", on.ours(server.port, "-R", "not on a sunday"), [])
-        # the server writes an event after it took it; a session is complete after both
-        on.ours(server.port)
-        lines = store.lines(place.events) or []
-        same("the accept", any(b'"accept"' in line for line in lines), True)
-        same("the reject", any(b"not on a sunday" in line for line in lines), True)
+        # the server writes an event after it took it
+        for name, words in (("the accept", b'"accept"'), ("the reject", b"not on a sunday")):
+            waited(name, lambda words=words: any(words in line for line in store.lines(place.events) or []), True)
     on.at_ours(part)
 
 
 def goes_on(on: Try, at: Callable[[Callable[[servers.Serve, servers.Place], None]], None],
-    read: Callable[[servers.Place], tuple[list[Record], bool]]) -> None:
-    """A connection that is cut off, and the session that goes on."""
+    read: Callable[[servers.Place], tuple[list[Record], bool]], seconds: float = PATIENCE) -> None:
+    """A connection that is cut off after a commit point, for which it waits this long, and the session that goes on."""
     def part(server: servers.Serve, place: servers.Place) -> None:
         """With one server."""
-        printed = on.ours(Cut(server.port, 20_000).port, status=8)
-        same("the first line of a cut session", printed[0][:3], "id ")
+        printed = on.ours(Cut(server.port, 20_000, seconds).port, status=8)
+        same("the first line of a cut session", printed[:1] and printed[0][:3], "id ")
         points = [line[7:] for line in printed if line.startswith("commit ")]
         if not points:
             # sudo's own server sends none in its first seconds
+            same("whether it waited for a commit point", seconds < PATIENCE, True)
             return
         # the server has to see the end of the first connection
         time.sleep(1)
@@ -312,7 +329,19 @@ def resumes(session: follow.Session, kept: int, data: bytes) -> bool:
 
 
 def cut_meanwhile(on: Try) -> None:
-    """A client resumes the session while it is sent: none of what it adds is sent."""
+    """A client resumes the session while it is sent: none of what it adds is sent.
+
+    That is tried again if it took so long that the sender gave up its server.
+    """
+    for _ in range(5):
+        said = cut_once(on)
+        if "30 seconds" not in said:
+            return
+    raise Differs(f"a session that is cut while it is sent: {said}")
+
+
+def cut_once(on: Try) -> str:
+    """Tries it, and gives what the sender says."""
     place, slow = servers.Place(), Slow()
     server = servers.Serve(on.server, place).start()
     session = follow.Session(server)
@@ -327,12 +356,15 @@ def cut_meanwhile(on: Try) -> None:
         for letter in b"yx":
             session.record(bytes([letter]) * 1_000_000)
         slow.go_on.set()
-        said = sender.communicate(timeout=60)[1]
-    slow.thread.join(10)
-    same(f"a session that is cut while it is sent: {said}",
-        (sender.returncode, "was cut by a restart" in said), (4, True))
-    same("what came of it is from before", (before.startswith(slow.records), bool(slow.records)), (True, True))
+        said = sender.communicate(timeout=PATIENCE)[1]
+    slow.thread.join(PATIENCE)
     server.stop()
+    if "30 seconds" not in said:
+        same(f"a session that is cut while it is sent: {said}",
+            (sender.returncode, "was cut by a restart" in said), (4, True))
+        same("what came of it is from before", (before.startswith(slow.records), bool(slow.records)), (True, True))
+    shutil.rmtree(place.folder)
+    return said
 
 
 def main() -> int:
@@ -352,7 +384,8 @@ def main() -> int:
     if servers.tool("sudo_logsrvd") and servers.tool("sudo_sendlog"):
         parts.append(("sudo's own server", lambda: to_theirs(on)))
         parts.append(("parts of a session to sudo's own server", lambda: part_to_theirs(on)))
-        parts.append(("a cut connection to sudo's own server", lambda: goes_on(on, on.at_theirs, log_of_theirs)))
+        parts.append(("a cut connection to sudo's own server", lambda: goes_on(on, on.at_theirs, log_of_theirs,
+            1.5)))
     else:
         print("sendlog: sudo's own server is skipped, without Debian's package sudo")
     bad = 0

@@ -4,6 +4,7 @@ it.
 from __future__ import annotations
 
 import os
+import random
 import signal
 import socket
 import subprocess
@@ -53,8 +54,38 @@ def tool(name: str) -> str | None:
     return next((os.path.join(folder, name) for folder in BINS if os.access(os.path.join(folder, name), os.X_OK)), None)
 
 
+# ports are drawn from this one on, and so often
+LOWEST, TRIES = 10_000, 1_000
+# a name of this process's own for each port that it has drawn, so that no other script draws the port too
+DRAWN: list[socket.socket] = []
+
+
+def highest_port() -> int:
+    """The lowest port that the system gives to connections by itself, 0 if it doesn't say so."""
+    words = waits.text_of("/proc/sys/net/ipv4/ip_local_port_range").split()
+    return int(words[0]) if words else 0
+
+
 def free_port() -> int:
-    """A port of 127.0.0.1 that nobody uses."""
+    """A port of 127.0.0.1 that nobody uses, and that nobody is given before a server listens there or is started again.
+
+    The system gives ports of its own range to connections: to any program's, and to that of a client whose server
+    doesn't listen, which is then connected to itself.
+    """
+    most = highest_port()
+    draw = random.SystemRandom()
+    for _ in range(TRIES if most > LOWEST + TRIES else 0):
+        port = draw.randrange(LOWEST, most)
+        name = socket.socket(socket.AF_UNIX)
+        try:
+            name.bind(f"\0interop, port {port}")
+            with socket.socket() as link:
+                link.bind(("127.0.0.1", port))
+        except OSError:
+            name.close()
+            continue
+        DRAWN.append(name)
+        return port
     with socket.socket() as link:
         link.bind(("127.0.0.1", 0))
         return link.getsockname()[1]
@@ -112,7 +143,7 @@ class Serve:
 
     def spawn(self) -> int:
         """Starts it, and doesn't wait. Gives how much was said before."""
-        offset = os.path.getsize(self.place.errors) if os.path.exists(self.place.errors) else 0
+        offset = len(self.place.said())
         with open(self.place.errors, "ab") as errors:
             words = [self.program, *self.words, self.place.conf, *self.further]
             self.process = subprocess.Popen(words, stdin=subprocess.DEVNULL, stdout=subprocess.DEVNULL, stderr=errors,
@@ -136,9 +167,10 @@ class Serve:
         return known_of(self.place, self.process)
 
     def listens(self, offset: int) -> bool:
-        """The server says its address in a line, once it listens."""
+        """The server says its address in a line, once it listens. The whole line is there."""
         if not self.probe:
-            return f":{self.port}" in self.place.said()[offset:]
+            lines = self.place.said()[offset:].splitlines(keepends=True)
+            return any(f":{self.port}" in line and "listening" in line and line.endswith("\n") for line in lines)
         try:
             socket.create_connection(("127.0.0.1", self.port), timeout=PATIENCE).close()
             return True

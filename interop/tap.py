@@ -1,6 +1,7 @@
 """A port between a client and a server, which keeps what went each way, and what a store must have of it."""
 from __future__ import annotations
 
+import contextlib
 import socket
 import threading
 import time
@@ -18,7 +19,7 @@ class Pair:
     def __init__(self) -> None:
         """Nothing has come."""
         self.sent, self.answered = bytearray(), bytearray()
-        self.open = 2
+        self.open, self.lock = 2, threading.Lock()
 
     def messages(self) -> tuple[list[Answer], list[Answer]]:
         """What the client sent, and what it was answered."""
@@ -70,8 +71,10 @@ class Tap:
             target.shutdown(socket.SHUT_WR)
         except OSError:
             pass
-        pair.open -= 1
-        if pair.open == 0:
+        with pair.lock:
+            pair.open -= 1
+            is_over = pair.open == 0
+        if is_over:
             source.close()
             target.close()
 
@@ -84,7 +87,9 @@ class Tap:
         while not Sent(pair).points and time.monotonic() < end:
             time.sleep(0.02)
         for link in (source, target):
-            link.shutdown(socket.SHUT_RDWR)
+            # one whose other end was reset is shut already
+            with contextlib.suppress(OSError):
+                link.shutdown(socket.SHUT_RDWR)
 
     def settled(self, count: int, seconds: float = PATIENCE) -> list[Pair]:
         """The pairs that came since the last call, once so many are there and all have ended."""

@@ -10,8 +10,9 @@ long a turn takes. A sender of the client's lane gets one commit point at most i
 one gets its next. So what is shown is the least number of turns that passed between a message and its answer.
 By default 1, 4 and 16 senders are tried at 1 and at 4 lanes.
 
-A machine that keeps the client or the senders from their processor makes a wait look longer than it was. So a run with
-a wait of more than --most turns is repeated, and it ends with 1 if each of --tries runs has one.
+A machine that keeps the client or the senders from their processor makes a wait look longer than it was, the more so
+the shorter a turn is. So a run with a wait of more than --most turns is repeated with syncs that take twice as long,
+up to LONGEST milliseconds more. It ends with 1 if each of --tries runs has one.
 """
 from __future__ import annotations
 
@@ -33,6 +34,7 @@ from oracle.connection import PATIENCE
 from oracle.waits import until
 
 SECOND = 10**9
+LONGEST = 128
 
 
 class Counter:
@@ -116,12 +118,12 @@ class Slowed:
         os.chmod(self.path, 0o755)
 
 
-def measure(args: argparse.Namespace, senders: int, lanes: int) -> tuple[list[int], list[float]]:
+def measure(args: argparse.Namespace, senders: int, lanes: int, delay: int) -> tuple[list[int], list[float]]:
     """How many turns each message of the client waited, and how many milliseconds."""
     parent = fair.SHM if os.access(fair.SHM, os.W_OK) else None
     place = servers.Place(servers.OURS, parent=parent)
     program = os.path.realpath(args.server)
-    slowed = Slowed(program, place.folder, args.delay).path if shutil.which("strace") else program
+    slowed = Slowed(program, place.folder, delay).path if shutil.which("strace") else program
     server = servers.Serve(slowed, place, ["--lanes", str(lanes)]).start()
     shared, spans, processes = Shared(senders), [], []
     try:
@@ -175,15 +177,16 @@ def main() -> int:
     words.add_argument("--senders", type=int, action="append")
     words.add_argument("--lanes", type=int, action="append")
     words.add_argument("--records", type=int, default=10)
-    words.add_argument("--tries", type=int, default=5)
+    words.add_argument("--tries", type=int, default=10)
     words.add_argument("--most", type=int, default=8)
     words.add_argument("--delay", type=int, default=2)
     args = words.parse_args()
     slow = 0
     for lanes in args.lanes or [1, 4]:
         for senders in args.senders or [1, 4, 16]:
-            for _ in range(args.tries):
-                turns, times = measure(args, senders, lanes)
+            for count in range(args.tries):
+                delay = max(args.delay, min(args.delay << count, LONGEST))
+                turns, times = measure(args, senders, lanes, delay)
                 what = f"turns.py: {lanes} lanes, {senders} senders"
                 middle = f"{statistics.median(turns):.0f} turns, {statistics.median(times):.0f} ms"
                 most = f"{max(turns)} turns, {max(times):.0f} ms"

@@ -88,7 +88,12 @@ class Connection:
 
 
 def connect(port: int, timeout: float = PATIENCE) -> Connection:
-    """A connection to a port of 127.0.0.1."""
+    """A connection to a port of 127.0.0.1.
+
+    One that the system has let connect, and of which the server's side knows nothing, is reset after some seconds.
+    """
     link = socket.create_connection(("127.0.0.1", port), timeout=timeout)
     link.setsockopt(socket.IPPROTO_TCP, socket.TCP_NODELAY, 1)
+    link.setsockopt(socket.SOL_SOCKET, socket.SO_KEEPALIVE, 1)
+    link.setsockopt(socket.IPPROTO_TCP, socket.TCP_KEEPIDLE, 2)
     return Connection(link, timeout)
