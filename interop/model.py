@@ -367,7 +367,7 @@ def serve(server: Server, stop_after: int) -> None:
     listener = socket.create_server(("127.0.0.1", server.settings.port), backlog=128)
     poll, count = selectors.DefaultSelector(), 0
     poll.register(listener, selectors.EVENT_READ, None)
-    report(f"127.0.0.1:{server.settings.port}, {server.settings.folder}, last number {server.last}")
+    report(f"listening on 127.0.0.1:{server.settings.port}, {server.settings.folder}, last number {server.last}")
     while count < stop_after or len(poll.get_map()) > 1:
         busy = []
         for key, _ in poll.select(0.01):
