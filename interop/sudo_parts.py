@@ -169,6 +169,16 @@ def data(sent: Sent, stream: str) -> bytes:
     return stream_of(sent.records, stream)
 
 
+def shown_is_sent(what: str, shown: bytes, sent: bytes, least: bytes = b"") -> None:
+    """What sudo showed is what it sent, but for its end: it must have the least.
+
+    sudo 1.9.13p3 may end before it has handed on the last output of its command, by its own server too. It has sent
+    all of it.
+    """
+    same(what, shown, sent[:len(shown)])
+    same(f"{least!r} is in what was shown, {shown!r}", least in shown, True)
+
+
 def part_sudo_terminal(trial: Trial) -> None:
     """A command on a terminal."""
     script = "echo ready; read line; echo got $line; stty size; seq 1 2000; exit 7"
@@ -176,7 +186,8 @@ def part_sudo_terminal(trial: Trial) -> None:
         defaults=["use_pty"])
     same(f"status of sudo, {shown}", status, 7)
     sent = trial.sent(1)
-    same("what the terminal showed", data(sent[0], "ttyout"), shown)
+    shown_is_sent("what the terminal showed", shown, data(sent[0], "ttyout"), b"ready")
+    same("the end of what was sent", data(sent[0], "ttyout")[-12:], b"1999\r\n2000\r\n")
     same("what was typed", data(sent[0], "ttyin"), b"some words\n")
     same("exit", sent[0].exit["exit_value"], 7)
     trial.store.compare(sent)
@@ -186,10 +197,10 @@ def part_sudo_no_terminal(trial: Trial) -> None:
     """A command without a terminal."""
     given = bytes(range(256)) * 300
     status, out, err = trial.sudo.run("/bin/sh", "-c", "cat; echo to standard error >&2", given=given)
-    # sudo 1.9.13p3 may end before it has handed on the last output of its command, by its own server too; it has sent
-    # all of it
-    same("status", (status, given[:len(out)], err), (0, out, b"to standard error\n"))
+    same("status", status, 0)
     sent = trial.sent(1)
+    for name, shown in (("stdout", out), ("stderr", err)):
+        shown_is_sent(name, shown, data(sent[0], name))
     same("streams", [data(sent[0], name) for name in ("stdin", "stdout", "stderr")],
         [given, given, b"to standard error\n"])
     trial.store.compare(sent)
@@ -225,8 +236,10 @@ def part_sudo_subcommands(trial: Trial) -> None:
     """Each command that the shell runs is a further accept of the same session."""
     status, out, err = trial.sudo.run("/bin/sh", "-c", "/usr/bin/id -u; /usr/bin/env true; /bin/echo end",
         defaults=["log_subcmds"])
-    same(f"status, {err}", (status, out.split(b"\n")[-2:]), (0, [b"end", b""]))
+    same(f"status, {err}", status, 0)
     sent = trial.sent(1)
+    same("output", data(sent[0], "stdout").split(b"\n")[-2:], [b"end", b""])
+    shown_is_sent("what was shown", out, data(sent[0], "stdout"))
     commands = [it["info"]["command"] for it in sent[0].further]
     if not all(any(command.endswith(name) for command in commands) for name in ("/id", "/echo")):
         raise Differs(f"subcommands {commands}")
@@ -237,8 +250,10 @@ def part_sudo_subcommand_refused(trial: Trial) -> None:
     """A command that the shell may not run is a reject within the session."""
     status, out, _ = trial.sudo.run("/bin/sh", "-c", "/usr/bin/id -u; /bin/echo end", user="daemon",
         defaults=["intercept"])
-    same("status", (status, out), (0, b"end\n"))
+    same("status", status, 0)
     (sent,) = trial.sent(1)
+    same("output", data(sent, "stdout"), b"end\n")
+    shown_is_sent("what was shown", out, data(sent, "stdout"))
     if "reject" not in [name for name, _ in sent.events]:
         raise Differs(f"events {[name for name, _ in sent.events]}")
     trial.store.compare([sent])
