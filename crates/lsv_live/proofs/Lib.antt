@@ -1,0 +1,4 @@
+pub mod EndLemmas
+pub mod PairLemmas
+pub mod RelayLemmas
+pub mod Stories

@@ -1,0 +1,5 @@
+pub mod Ends
+pub mod Meter
+pub mod Pairs
+pub mod Relays
+pub mod Story
