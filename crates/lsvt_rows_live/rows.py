@@ -3,8 +3,8 @@
 
 usage: rows.py FOLDER
 
-It is a program of its own: it spells the messages by the tables of sudo_logsrv.proto(5), and works out what a live relay
-passes on by the page of lsv_live. It knows nothing of what the crates answer.
+It is a program of its own: it spells the messages by the tables of sudo_logsrv.proto(5), and works out what a live
+relay passes on by the page of lsv_live. It knows nothing of what the crates answer.
 """
 from __future__ import annotations
 
@@ -29,6 +29,7 @@ ACCEPT = bytes.fromhex("000000060a040a001801")
 RECORD = bytes.fromhex("0000000e3a0c0a061080cab5ee0112026869")  # 0.5 s, "hi"
 EXIT = bytes.fromhex("000000041a020a00")
 REJECT = frame(field(2, b""))
+STRANGE = "a commit point of the other server can't be"
 SPOILT = (LARGEST + 1).to_bytes(4, "big")
 
 
@@ -86,7 +87,7 @@ def link_line(link: int, read: bytes, written: bytes) -> str:
 
 
 def pair(came: bytes, up: bytes, said: bytes, down: bytes) -> None:
-    """The script is played: what came of the client, what the other server is put, what it said, and what the client is put."""
+    """The script is played: what the client sent, what went up of it, what the server said, and what went down."""
     case("pair", link_line(CLIENT, came, down), link_line(SERVER, said, up))
 
 
@@ -124,7 +125,8 @@ def whole_sessions() -> None:
     pair(SUDO + REJECT, SUDO + REJECT, OTHER, HELLO)
 
     begin("a frame is passed on as it came, in whatever spelling")
-    odd = frame(field(7, field(99, "x") + field(2, "hi") + field(1, number(2, 0) + number(1, 0)))) + frame(field(13, field(1, "")))
+    delay = field(1, number(2, 0) + number(1, 0))
+    odd = frame(field(7, field(99, "x") + field(2, "hi") + delay)) + frame(field(13, field(1, "")))
     give(CLIENT, odd)
     case("stop")
     pair(odd, odd, b"", b"")
@@ -268,7 +270,8 @@ def refused_servers() -> None:
     give(SERVER, OTHER, point(7 * 10**9), point(7_500_000_000), point(7_500_000_001))
     case("stop")
     points = point(7 * 10**9) + point(7_500_000_000)
-    pair(SUDO + restart + RECORD, SUDO + restart + RECORD, OTHER + points + point(7_500_000_001), HELLO + points + error("bad upstream"))
+    session, above = SUDO + restart + RECORD, point(7_500_000_001)
+    pair(session, session, OTHER + points + above, HELLO + points + error("bad upstream"))
 
 
 def slow_links() -> None:
@@ -299,7 +302,10 @@ def slow_links() -> None:
 
 
 def held(sent: bytes) -> int:
-    """How many of these bytes are read of a link whose partner takes 100: pieces of 65,536, until so many bytes of whole frames are unsent."""
+    """How many of these bytes are read of a link whose partner takes 100 bytes.
+
+    They are read in pieces of 65,536, until that many bytes of whole frames are unsent.
+    """
     read = 0
     while read < len(sent):
         read = min(read + 65_536, len(sent))
@@ -318,17 +324,20 @@ def one_by_one() -> None:
     case(f"client {SUDO[4:].hex()}", SUDO.hex())
     case(f"server {OTHER[4:].hex()}", HELLO.hex())
     case(f"server {OTHER[4:].hex()}", "nothing")
-    case(f"server {point(1)[4:].hex()}", "Strange(Point { nanos: 1 }): a commit point of the other server can't be")
+    case(f"server {point(1)[4:].hex()}", f"Strange(Point {{ nanos: 1 }}): {STRANGE}")
     case(f"client {record(1, 'a')[4:].hex()}", record(1, "a").hex())
     case(f"server {point(1)[4:].hex()}", point(1).hex())
-    case(f"server {frame(field(2, number(2, 10**9)))[4:].hex()}", f"Strange(Point {{ nanos: {2**63 - 1} }}): a commit point of the other server can't be")
+    no_time = frame(field(2, number(2, 10**9)))[4:]
+    case(f"server {no_time.hex()}", f"Strange(Point {{ nanos: {2**63 - 1} }}): {STRANGE}")
     case(f"client {record(2**63 - 1, 'a')[4:].hex()}", "TooLong(Point { nanos: 1 }): the elapsed time is too long")
     case("client ", "Malformed(Untyped): malformed message: the message is of no known type")
     case(f"client {field(7, b'').hex()}", "BadTime: bad time")
     case(f"server {field(5, 'no').hex()}", f"last {error('no').hex()}")
     longest = field(3, bytes(LARGEST - 4))
     case(f"server {longest[:4].hex()}*{LARGEST - 4}", shown(frame(longest)))
-    case(f"server {field(3, bytes(LARGEST))[:5].hex()}*{LARGEST}", f"Long({LARGEST + 5}): a message of {LARGEST + 5} bytes is longer than a frame holds")
+    size = LARGEST + 5
+    head = field(3, bytes(LARGEST))[:5]
+    case(f"server {head.hex()}*{LARGEST}", f"Long({size}): a message of {size} bytes is longer than a frame holds")
 
 
 def main() -> int:
